@@ -1,6 +1,6 @@
 -- What rounding down and up mean, once for both directions and any divisor.
-use Prim.Native.Nat.{ℕ, suc, _+_, _-_, _*_, _/_, _%_, _≤_, _<_}
-use mathlib.Core.Path.{_≡_, refl, sym, ap, _∙_}
+use Prim.Native.Nat.{ℕ, _+_, _-_, _*_, _/_, _%_, _≤_, _<_}
+use mathlib.Core.Path.{_≡_, sym, ap, _∙_}
 use mathlib.Core.Logic.{_↔_}
 use native.Mathlib.Nat.{add-assoc, add-comm, add-left-comm, add-mul, mul-add, mul-assoc, mul-left-comm, one-mul, mul-comm, div-zero, mul-right-comm, mul-sub, mul-le-mul-left, mul-le-mul-right, le-trans, le-refl, le-antisymm, le-div-iff-mul-le, div-lt-iff-lt-mul, div-mul-le-self, lt-div-mul-add, le-of-mul-le-mul-right, lt-of-mul-lt-mul-right, div-add-mod'}
 use native.Mathlib.Omega.{arith}
@@ -101,7 +101,7 @@ module _ (x : ℕ) {y : ℕ} (pos : 0 < y) where
       let above = nearest Up (x / y + 1) x pos .1 (record { order = omega (arith, one-more (x / y) y, lt-div-mul-add {a = x} pos) }) in
       omega arith
 
-sub-mul : (a b y : ℕ) → (a - b) * y ≡ a * y - b * y
+pub sub-mul : (a b y : ℕ) → (a - b) * y ≡ a * y - b * y
 sub-mul a b y = mul-comm (a - b) y ∙ mul-sub y a b ∙ simp mul-comm
 
 -- the larger share of the larger weighs more

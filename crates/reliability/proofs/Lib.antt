@@ -1,0 +1,15 @@
+pub mod Lists
+pub mod Connection
+pub mod Searches
+pub mod States
+pub mod Validity
+pub mod Steps
+pub mod Counts
+pub mod Within
+pub mod Reductions
+pub mod Enclosure
+pub mod Theorems
+pub mod Signed
+pub mod Comparisons
+pub mod Examples
+pub mod Unrolled
