@@ -99,6 +99,17 @@ fn zero_and_whole_series() {
     }
 }
 
+/// The triangle of halves, by series, parallel and factor: its figures are written in the request (plan P6).
+#[test]
+fn triangle_of_halves() {
+    let half = S / 2;
+    let figure = |side| {
+        let rest = library::parallel(side, library::series(side, half, half), half);
+        library::product(side, library::factor(side, half, half), rest)
+    };
+    assert_eq!(SIDES.map(figure), [499_999_999, 500_000_001]);
+}
+
 #[test]
 fn division_at_its_edges() {
     let unit = u64::from(S);

@@ -76,6 +76,11 @@ pub factor-range : (d : Direction) (p q : ℕ) → p ≤ S → q ≤ S → facto
 unfolding factor
 factor-range d p q hp hq = range d (either p q) (either-range p q hp hq)
 
+-- the factor is 0 where W is
+pub factor-zero : (d : Direction) (p q : ℕ) → either p q ≡ 0 → factor d p q ≡ 0
+unfolding factor
+factor-zero d p q h = rw h (of-multiple d 0 unit)
+
 -- ---- parallel: both are W / S, so the factor's laws are the parallel value's
 pub parallel-is-factor : (d : Direction) (p q : ℕ) → p ≤ S → q ≤ S → parallel d p q ≡ factor d p q
 unfolding parallel factor
