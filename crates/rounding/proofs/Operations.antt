@@ -1,13 +1,12 @@
 -- Each operation's laws: rounded from its exact quotient, monotone in each argument, at most S.
 use Prim.Native.Nat.{ℕ, _+_, _-_, _*_, _/_, _≤_, _<_, zero-le}
-use mathlib.Core.Path.{_≡_, refl, sym, ap, _∙_, subst}
-use native.Mathlib.Nat.{div-le-of-le-mul, add-mul, mul-comm, mul-assoc, mul-left-comm, mul-le-mul, mul-le-mul-left, mul-le-mul-right, le-trans, le-refl, le-of-eq, add-sub-of-le, add-le-add}
+use mathlib.Core.Path.{_≡_, sym, ap, _∙_, subst}
+use native.Mathlib.Nat.{div-le-of-le-mul, add-mul, mul-comm, mul-assoc, mul-le-mul, mul-le-mul-left, mul-le-mul-right, le-trans, le-of-eq, add-sub-of-le, add-le-add}
 use native.Mathlib.Omega.{arith}
 use native.Mathlib.Decide.{decLt}
 use lib.Dec.{lit<}
 use Rattle.rounding.specs.declared.Direction.{Direction}
-use Rattle.rounding.specs.declared.Direction.the-variants.{Down, Up}
-use Rattle.rounding.specs.Rounding.{S, quotient, opposite, product, parallel, either, series, factor, split}
+use Rattle.rounding.specs.Rounding.{S, quotient, product, parallel, either, series, factor, split}
 use Rattle.rounding.proofs.Laws.{Rounds, rounds, monotone, over-zero, of-multiple, complement, rearranged, ring}
 
 unit : 0 < S
