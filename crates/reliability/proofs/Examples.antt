@@ -1,0 +1,73 @@
+-- The plans of the paper that are marked P, as rows of one table, computed from the definitions.
+use Prim.Native.Nat.{ℕ, _+_, _*_, _^_}
+use mathlib.Core.Path.{_≡_, refl}
+use mathlib.Core.List.{List, [], _∷_, map}
+use mathlib.Core.Bool.{Bool, true, false, cond, _&&_}
+use lib.Dec.{eqb}
+use lib.ListN.{length}
+use Rattle.rounding.specs.Rounding.{S, quotient, product, parallel, either, series, factor, split}
+use Rattle.rounding.specs.declared.Direction.{Direction}
+use Rattle.rounding.specs.declared.Direction.the-variants.{Down, Up}
+use Rattle.reliability.specs.declared.Link.{Link}
+use Rattle.reliability.specs.declared.Figure.{Figure}
+use Rattle.reliability.specs.Networks.{Network, linked, merge, label, every, connected}
+use Rattle.reliability.specs.Exact.{sum, exact}
+use Rattle.reliability.specs.Rule.{firstAt, places, firstPair, lowest, next, deleteAt, without, leaves, worked, figureOf, figure}
+
+-- a row: nodes, links, limit; low, high, steps, finished; the exact figure in units
+pub record Row : Type 0 where
+  pub nodes : List ℕ
+  pub links : List Link
+  pub limit : ℕ
+  pub low : ℕ
+  pub high : ℕ
+  pub steps : ℕ
+  pub finished : Bool
+  pub exactly : ℕ
+
+pub same : Bool → Bool → Bool
+same true b = b
+same false true = false
+same false false = true
+
+pub right : Row → Bool
+right r =
+    let g : Network = record { nodes = r .nodes; links = r .links } in
+    let f : Figure = figure g (r .limit) in
+    eqb (f .low) (r .low) && eqb (f .high) (r .high) && eqb (f .steps) (r .steps) && same (f .finished) (r .finished)
+    && eqb (S * exact Down g) (r .exactly * S ^ length (r .links))
+
+pub link : ℕ → ℕ → ℕ → Link
+link a b p = linked a b (λ d. p)
+
+pub triangle : ℕ → List Link
+triangle p = link 0 1 p ∷ link 1 2 p ∷ link 0 2 p ∷ []
+
+pub half : ℕ
+half = 500000000
+
+pub complete : List Link
+complete = link 0 1 half ∷ link 0 2 half ∷ link 0 3 half ∷ link 1 2 half ∷ link 1 3 half ∷ link 2 3 half ∷ []
+
+pub row : List ℕ → List Link → ℕ → ℕ → ℕ → ℕ → Bool → ℕ → Row
+row n l limit low high steps finished exactly =
+    record { nodes = n; links = l; limit = limit; low = low; high = high; steps = steps; finished = finished; exactly = exactly }
+
+pub rows : List Row
+rows =
+    row (0 ∷ []) [] 20000 S S 0 true S  -- P1
+    ∷ row (0 ∷ 1 ∷ []) [] 20000 0 0 0 true 0  -- P2
+    ∷ row (0 ∷ []) (link 0 0 0 ∷ []) 20000 S S 0 true S  -- P3
+    ∷ row (0 ∷ 1 ∷ []) (link 0 1 900000000 ∷ link 0 1 800000000 ∷ []) 20000 980000000 980000000 0 true 980000000  -- P4
+    ∷ row (0 ∷ 1 ∷ 2 ∷ []) (link 0 1 half ∷ link 1 2 half ∷ []) 20000 250000000 250000000 0 true 250000000  -- P5
+    ∷ row (0 ∷ 1 ∷ 2 ∷ []) (triangle half) 20000 499999999 500000001 0 true 500000000  -- P6
+    ∷ row (0 ∷ 1 ∷ 2 ∷ []) (triangle 0) 20000 0 0 0 true 0  -- P7
+    ∷ row (0 ∷ 1 ∷ 2 ∷ []) (triangle S) 20000 S S 0 true S  -- P8
+    ∷ row (0 ∷ 1 ∷ 2 ∷ 3 ∷ 4 ∷ []) (link 0 3 950000000 ∷ link 0 1 910000000 ∷ link 1 2 980000000 ∷ link 0 2 880000000 ∷ link 1 4 910000000 ∷ []) 20000 851905963 851905965 0 true 851905964  -- P9
+    ∷ row (0 ∷ 1 ∷ 2 ∷ 3 ∷ []) complete 1 593749999 593750001 1 true 593750000  -- P10, 38 of 64 states
+    ∷ row (0 ∷ 1 ∷ 2 ∷ 3 ∷ []) complete 0 0 S 0 false 593750000  -- P11
+    ∷ []
+
+pub examples : every right rows ≡ true
+unfolding right same rows row link triangle half complete figureOf worked leaves next without deleteAt lowest firstPair places firstAt exact sum connected every label merge quotient product parallel either series factor split
+examples = refl

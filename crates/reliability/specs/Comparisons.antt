@@ -1,0 +1,31 @@
+-- Importance of a link and difference of two networks.
+use Prim.Native.Nat.{ℕ, _+_, _-_}
+use mathlib.Core.Bool.{Bool, true, false, _&&_}
+use lib.IntN.{ℤ, pos, _-ℤ_}
+use Rattle.rounding.specs.declared.Direction.{Direction}
+use Rattle.reliability.specs.declared.Figure.{Figure}
+use Rattle.reliability.specs.declared.Difference.{Difference}
+use Rattle.reliability.specs.Networks.{Network, linkAt}
+use Rattle.reliability.specs.Rule.{isLoop, deleted, contracted, figure}
+
+-- the network with link i broken: deletion
+abbrev pub brokenAt : ℕ → Network → Network
+brokenAt i g = deleted i g
+
+-- the network with link i sound: contraction; a loop's is the network without it
+unfoldable pub soundAt : ℕ → Network → Network
+soundAt i g = elim (isLoop (linkAt g i)) [ true ↦ deleted i g | false ↦ contracted (linkAt g i) (deleted i g) ]
+
+-- sound minus broken; a truncated difference is max(0, ..)
+abbrev pub lessened : Figure → Figure → Figure
+lessened s b = record { low = s .low - b .high; high = s .high - b .low; steps = s .steps + b .steps; finished = s .finished && b .finished }
+
+abbrev pub importance : Network → ℕ → ℕ → Figure
+importance g i limit = lessened (figure (soundAt i g) limit) (figure (brokenAt i g) limit)
+
+-- plan A minus plan B
+abbrev pub minus : Figure → Figure → Difference
+minus f h = record { low = pos (f .low) -ℤ pos (h .high); high = pos (f .high) -ℤ pos (h .low); steps = f .steps + h .steps; finished = f .finished && h .finished }
+
+abbrev pub difference : Network → Network → ℕ → Difference
+difference g h limit = minus (figure g limit) (figure h limit)

@@ -1,0 +1,32 @@
+-- Exact reliability: the sum over the sets of links that connect all nodes.
+use Prim.Native.Nat.{ℕ, _+_, _-_, _*_}
+use mathlib.Core.List.{List, [], _∷_, map}
+use mathlib.Core.Bool.{cond}
+use Rattle.rounding.specs.Rounding.{S}
+use Rattle.rounding.specs.declared.Direction.{Direction}
+use Rattle.reliability.specs.declared.Link.{Link}
+use Rattle.reliability.specs.Networks.{Network, Ends, ends, value, connected}
+
+-- a link with its weights: sound is multiplied in for a set that holds it, broken for one that does not
+pub record Weighted : Type 0 where
+  pub joins : Ends
+  pub sound : ℕ
+  pub broken : ℕ
+
+-- over the sets of the links es, each with the links t added: the products of the weights of the sets that connect the nodes vs
+unfoldable pub sum : List ℕ → List Weighted → List Ends → ℕ
+sum vs [] t = cond (connected vs t) 1 0
+sum vs (e ∷ es) t = e .sound * sum vs es (e .joins ∷ t) + e .broken * sum vs es t
+
+-- over all sets: the product of the totals, which is S to the power m where each total is S
+unfoldable pub total : List Weighted → ℕ
+total [] = 1
+total (e ∷ es) = (e .sound + e .broken) * total es
+
+-- a link of a value in units: sound with that value, broken with S less that value
+abbrev pub weighted : Direction → Link → Weighted
+weighted d e = record { joins = ends e; sound = value d e; broken = S - value d e }
+
+-- N: the exact reliability of a network, at one direction's values, is N over S to the power m
+unfoldable pub exact : Direction → Network → ℕ
+exact d g = sum (g .nodes) (map (weighted d) (g .links)) []

@@ -1,0 +1,4 @@
+pub mod Networks
+pub mod Exact
+pub mod Rule
+pub mod Comparisons

@@ -1,0 +1,55 @@
+-- Networks, and what it means that links connect nodes.
+use Prim.Native.Nat.{ℕ, zero, suc, min, max}
+use mathlib.Core.List.{List, [], _∷_}
+use mathlib.Core.Bool.{Bool, true, false, cond, _&&_, _||_}
+use lib.Dec.{eqb}
+use lib.ListN.{getD}
+use Rattle.rounding.specs.declared.Direction.{Direction}
+use Rattle.rounding.specs.declared.Direction.the-variants.{Down, Up}
+use Rattle.reliability.specs.declared.Link.{Link}
+
+-- a network: its nodes in ascending order, its links in list order
+pub record Network : Type 0 where
+  pub nodes : List ℕ
+  pub links : List Link
+
+-- the value that a direction is worked from: low figures from the low values, high figures from the high ones
+abbrev pub value : Direction → Link → ℕ
+value Down e = e .low
+value Up e = e .high
+
+-- the link between a and b with a value for each direction
+abbrev pub linked : ℕ → ℕ → (Direction → ℕ) → Link
+linked a b v = record { a = a; b = b; low = v Down; high = v Up }
+
+-- the link at place i
+abbrev pub linkAt : Network → ℕ → Link
+linkAt g i = getD (g .links) i (linked 0 0 (λ d. 0))
+
+-- the two ends of a link
+pub record Ends : Type 0 where
+  pub a : ℕ
+  pub b : ℕ
+
+abbrev pub ends : Link → Ends
+ends e = record { a = e .a; b = e .b }
+
+-- ---- connection
+
+-- z, or the smaller of x and y where z is the larger
+unfoldable pub merge : ℕ → ℕ → ℕ → ℕ
+merge x y z = cond (eqb z (max x y)) (min x y) z
+
+-- the lowest node that a node is connected to through the links t: every node is its own label, and a link merges two labels
+unfoldable pub label : List Ends → ℕ → ℕ
+label [] = λ v. v
+label (e ∷ t) = let f = label t in let x = f (e .a) in let y = f (e .b) in λ v. merge x y (f v)
+
+unfoldable pub every : {A : Type 0} → (A → Bool) → List A → Bool
+every p [] = true
+every p (x ∷ xs) = p x && every p xs
+
+-- the links t connect the nodes: all have one label
+unfoldable pub connected : List ℕ → List Ends → Bool
+connected [] t = true
+connected (v ∷ vs) t = let f = label t in every (λ u. eqb (f u) (f v)) vs

@@ -1,0 +1,208 @@
+-- The rule of work, steps 1 to 7.
+use Prim.Native.Nat.{ℕ, zero, suc, _+_, _-_, min, max}
+use mathlib.Core.List.{List, [], _∷_, map}
+use mathlib.Core.Bool.{Bool, true, false, cond, _&&_, _||_, not}
+use mathlib.Core.Option.{Option, some, none, Option·map}
+use lib.Dec.{eqb, leb}
+use lib.ListN.{length, set}
+use Rattle.rounding.specs.Rounding.{S, product, parallel, series, factor, split}
+use Rattle.rounding.specs.declared.Direction.{Direction}
+use Rattle.rounding.specs.declared.Direction.the-variants.{Down, Up}
+use Rattle.reliability.specs.declared.Link.{Link}
+use Rattle.reliability.specs.declared.Figure.{Figure}
+use Rattle.reliability.specs.declared.Step.{Step}
+use Rattle.reliability.specs.declared.Step.the-variants.{OneNode, Disconnected, Loop, Parallel, End, Series, Split}
+use Rattle.reliability.specs.Networks.{Network, value, linked, linkAt, ends, connected}
+
+-- ---- searches
+
+abbrev pub isLoop : Link → Bool
+isLoop e = eqb (e .a) (e .b)
+
+abbrev pub touches : ℕ → Link → Bool
+touches v e = eqb (e .a) v || eqb (e .b) v
+
+-- the same two ends, either way round
+abbrev pub alike : Link → Link → Bool
+alike e f = (eqb (e .a) (f .a) && eqb (e .b) (f .b)) || (eqb (e .a) (f .b) && eqb (e .b) (f .a))
+
+-- the first place at which a test holds
+unfoldable pub firstAt : (Link → Bool) → List Link → Option ℕ
+firstAt p [] = none
+firstAt p (e ∷ es) = elim (p e) [ true ↦ some zero | false ↦ Option·map suc (firstAt p es) ]
+
+-- all places at which a test holds, in order
+unfoldable pub places : (Link → Bool) → List Link → List ℕ
+places p [] = []
+places p (e ∷ es) = elim (p e) [ true ↦ zero ∷ map suc (places p es) | false ↦ map suc (places p es) ]
+
+abbrev pub sucs : ℕ × ℕ → ℕ × ℕ
+sucs ij = (suc (ij .0), suc (ij .1))
+
+-- the first link in list order with a partner on the same two ends, and its earliest partner
+unfoldable pub firstPair : List Link → Option (ℕ × ℕ)
+firstPair [] = none
+firstPair (e ∷ es) = elim (firstAt (alike e) es) [ some j ↦ some (zero, suc j) | none ↦ Option·map sucs (firstPair es) ]
+
+-- a node with one link, given the places of its links
+abbrev pub endOf : ℕ → List ℕ → Option Step
+endOf v [] = none
+endOf v (i ∷ []) = some (End v i)
+endOf v (i ∷ (j ∷ r)) = none
+
+-- a node with two links
+abbrev pub seriesOf : ℕ → List ℕ → Option Step
+seriesOf v [] = none
+seriesOf v (i ∷ []) = none
+seriesOf v (i ∷ (j ∷ [])) = some (Series v i j)
+seriesOf v (i ∷ (j ∷ (k ∷ r))) = none
+
+-- the lowest node that a rule fits
+unfoldable pub lowest : (ℕ → List ℕ → Option Step) → List Link → List ℕ → Option Step
+lowest rule es [] = none
+lowest rule es (v ∷ vs) = elim (rule v (places (touches v) es)) [ some s ↦ some s | none ↦ lowest rule es vs ]
+
+-- step 7 splits on the first link
+abbrev pub chosen : Network → ℕ
+chosen g = 0
+
+-- ---- which step fits
+
+abbrev pub when : Bool → Step → Option Step
+when true s = some s
+when false s = none
+
+infixr 20 _otherwise_
+abbrev pub _otherwise_ : Option Step → Step → Step
+_otherwise_ (some s) t = s
+_otherwise_ none t = t
+
+unfoldable pub next : Network → Step
+next g =
+    Option·map Loop (firstAt isLoop (g .links))  -- 1
+    otherwise when (leb (length (g .nodes)) 1) OneNode  -- 2
+    otherwise when (not (connected (g .nodes) (map ends (g .links)))) Disconnected  -- 3
+    otherwise Option·map (λ ij. Parallel (ij .0) (ij .1)) (firstPair (g .links))  -- 4
+    otherwise lowest endOf (g .links) (g .nodes)  -- 5
+    otherwise lowest seriesOf (g .links) (g .nodes)  -- 6
+    otherwise Split (chosen g)  -- 7
+
+-- ---- what a step leaves
+
+unfoldable pub deleteAt : {A : Type 0} → ℕ → List A → List A
+deleteAt i [] = []
+deleteAt zero (x ∷ xs) = xs
+deleteAt (suc i) (x ∷ xs) = x ∷ deleteAt i xs
+
+unfoldable pub without : ℕ → List ℕ → List ℕ
+without v [] = []
+without v (u ∷ vs) = elim (eqb u v) [ true ↦ without v vs | false ↦ u ∷ without v vs ]
+
+-- link i goes
+abbrev pub deleted : ℕ → Network → Network
+deleted i g = record { nodes = g .nodes; links = deleteAt i (g .links) }
+
+-- node v goes
+abbrev pub removed : ℕ → Network → Network
+removed v g = record { nodes = without v (g .nodes); links = g .links }
+
+-- link e takes the place of link i, and link j goes
+abbrev pub joined : ℕ → ℕ → Link → Network → Network
+joined i j e g = record { nodes = g .nodes; links = deleteAt j (set (g .links) i e) }
+
+-- two links side by side as one
+abbrev pub inParallel : Link → Link → Link
+inParallel e f = linked (e .a) (e .b) (λ d. parallel d (value d e) (value d f))
+
+-- the neighbour of v across a link
+abbrev pub across : ℕ → Link → ℕ
+across v e = cond (eqb (e .a) v) (e .b) (e .a)
+
+-- two links at v as one that joins its neighbours
+abbrev pub inSeries : ℕ → Link → Link → Link
+inSeries v e f = linked (across v e) (across v f) (λ d. series d (value d e) (value d f))
+
+abbrev pub rename : ℕ → ℕ → ℕ → ℕ
+rename keep gone v = cond (eqb v gone) keep v
+
+abbrev pub renamed : ℕ → ℕ → Link → Link
+renamed keep gone e = linked (rename keep gone (e .a)) (rename keep gone (e .b)) (λ d. value d e)
+
+-- contraction: the larger end of the link is renamed to the smaller
+abbrev pub contracted : Link → Network → Network
+contracted e g =
+    let keep = min (e .a) (e .b) in
+    let gone = max (e .a) (e .b) in
+    record { nodes = without gone (g .nodes); links = map (renamed keep gone) (g .links) }
+
+-- what is left to work: nothing, one network, one whose figure is multiplied by a factor, or two
+pub data Remainder : Type 0 where
+  settled : ℕ → Remainder
+  rest : Network → Remainder
+  scaled : (Direction → ℕ) → Network → Remainder
+  branches : Link → Network → Network → Remainder
+
+unfoldable pub leaves : Network → Step → Remainder
+leaves g OneNode = settled S
+leaves g Disconnected = settled 0
+leaves g (Loop i) = rest (deleted i g)
+leaves g (Parallel i j) = rest (joined i j (inParallel (linkAt g i) (linkAt g j)) g)
+leaves g (End v i) = scaled (λ d. value d (linkAt g i)) (removed v (deleted i g))
+leaves g (Series v i j) =
+    let e = linkAt g i in
+    let f = linkAt g j in
+    scaled (λ d. factor d (value d e) (value d f)) (removed v (joined i j (inSeries v e f) g))
+leaves g (Split i) = branches (linkAt g i) (contracted (linkAt g i) (deleted i g)) (deleted i g)
+
+-- ---- the figure under a limit
+
+-- a low and a high figure, one for each direction
+abbrev pub bounded : (Direction → ℕ) → ℕ → Bool → Figure
+bounded b steps finished = record { low = b Down; high = b Up; steps = steps; finished = finished }
+
+abbrev pub side : Direction → Figure → ℕ
+side Down f = f .low
+side Up f = f .high
+
+abbrev pub times : (Direction → ℕ) → Figure → Figure
+times k f = bounded (λ d. product d (k d) (side d f)) (f .steps) (f .finished)
+
+abbrev pub blend : Link → Figure → Figure → Figure
+blend e s t = bounded (λ d. split d (value d e) (side d s) (side d t)) (suc (s .steps + t .steps)) (s .finished && t .finished)
+
+-- no step is left for a split
+abbrev pub unfinished : Figure
+unfinished = record { low = 0; high = S; steps = 0; finished = false }
+
+-- the figure of what is left, worked by `work`: sound first, the broken branch with what sound leaves
+unfoldable pub worked : (Network → ℕ → Figure) → ℕ → Remainder → Figure
+worked work limit (settled k) = bounded (λ d. k) 0 true
+worked work limit (rest g) = work g limit
+worked work limit (scaled k g) = times k (work g limit)
+worked work zero (branches e sound broken) = unfinished
+worked work (suc limit) (branches e sound broken) =
+    let s = work sound limit in
+    blend e s (work broken (limit - s .steps))
+
+-- the figure of a network of m links: each step leaves one link less
+unfoldable pub figureOf : ℕ → Network → ℕ → Figure
+figureOf zero g limit = worked (λ h l. unfinished) limit (leaves g (next g))
+figureOf (suc m) g limit = worked (figureOf m) limit (leaves g (next g))
+
+abbrev pub figure : Network → ℕ → Figure
+figure g limit = figureOf (length (g .links)) g limit
+
+-- ---- the splits needed with no limit
+
+unfoldable pub counted : (Network → ℕ) → Remainder → ℕ
+counted count (settled k) = 0
+counted count (rest g) = count g
+counted count (scaled k g) = count g
+counted count (branches e sound broken) = suc (count sound + count broken)
+
+unfoldable pub neededOf : ℕ → Network → ℕ
+neededOf zero g = counted (λ h. 0) (leaves g (next g))
+neededOf (suc m) g = counted (neededOf m) (leaves g (next g))
+
+abbrev pub needed : Network → ℕ
+needed g = neededOf (length (g .links)) g
