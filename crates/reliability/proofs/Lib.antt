@@ -1,1 +1,4 @@
 pub mod Examples
+pub mod States
+pub mod Steps
+pub mod Counts

@@ -1,9 +1,10 @@
 -- Networks, and what it means that links connect nodes.
-use Prim.Native.Nat.{ℕ, zero, suc, min, max}
-use mathlib.Core.List.{List, [], _∷_}
-use mathlib.Core.Bool.{Bool, true, false, cond, _&&_, _||_}
+use Prim.Native.Nat.{ℕ, min, max, _≤_, _<_}
+use mathlib.Core.List.{List, [], _∷_, List·Memᴰ}
+use mathlib.Core.Bool.{Bool, true, false, cond, _&&_}
 use lib.Dec.{eqb}
 use lib.ListN.{getD}
+use Rattle.rounding.specs.Rounding.{S}
 use Rattle.rounding.specs.declared.Direction.{Direction}
 use Rattle.rounding.specs.declared.Direction.the-variants.{Down, Up}
 use Rattle.reliability.specs.declared.Link.{Link}
@@ -33,6 +34,23 @@ pub record Ends : Type 0 where
 
 abbrev pub ends : Link → Ends
 ends e = record { a = e .a; b = e .b }
+
+-- ---- valid networks
+
+-- each number is below all that follow it
+unfoldable pub Ascending : List ℕ → Type 0
+Ascending [] = Unit {0}
+Ascending (v ∷ vs) = ((u : ℕ) → List·Memᴰ u vs → v < u) × Ascending vs
+
+-- a link whose ends are among the nodes and whose values are at most S
+pub record Proper (vs : List ℕ) (e : Link) : Type 0 where
+  pub a-node : List·Memᴰ (e .a) vs
+  pub b-node : List·Memᴰ (e .b) vs
+  pub range : (d : Direction) → value d e ≤ S
+
+pub record Valid (g : Network) : Type 0 where
+  pub ascending : Ascending (g .nodes)
+  pub proper : (e : Link) → List·Memᴰ e (g .links) → Proper (g .nodes) e
 
 -- ---- connection
 
