@@ -2,3 +2,5 @@ pub mod Examples
 pub mod States
 pub mod Steps
 pub mod Counts
+pub mod Within
+pub mod Reductions
