@@ -5,3 +5,4 @@ pub mod Steps
 pub mod Counts
 pub mod Within
 pub mod Reductions
+pub mod Enclosure
