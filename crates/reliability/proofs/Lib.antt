@@ -1,4 +1,5 @@
 pub mod Examples
+pub mod Lists
 pub mod States
 pub mod Steps
 pub mod Counts

@@ -1,0 +1,69 @@
+-- Lists by place: deletion, replacement and membership.
+use Prim.Native.Nat.{ℕ, zero, suc, _<_}
+use mathlib.Core.Path.{_≡_, refl, ap}
+use mathlib.Core.List.{List, [], _∷_, map, List·Memᴰ, List·Memᴰ·head, List·Memᴰ·tail}
+use mathlib.Core.Logic.{_⊎_, inl, inr, ⊎-map}
+use native.Mathlib.Nat.{not-suc-le-zero, le-of-suc-le-suc}
+use lib.ListN.{length, getD, set}
+use Rattle.reliability.specs.Rule.{deleteAt}
+
+module _ {A : Type 0} where
+  pub length-delete : {i : ℕ} (l : List A) → i < length l → suc (length (deleteAt i l)) ≡ length l
+  unfolding deleteAt
+  length-delete [] h = absurd (not-suc-le-zero h)
+  length-delete {i = zero} (x ∷ l) h = refl
+  length-delete {i = suc i} (x ∷ l) h = ap suc (length-delete l (le-of-suc-le-suc h))
+
+  pub mem-delete : {x : A} (i : ℕ) (l : List A) → List·Memᴰ x (deleteAt i l) → List·Memᴰ x l
+  unfolding deleteAt
+  mem-delete i [] m = m
+  mem-delete zero (y ∷ l) m = List·Memᴰ·tail m
+  mem-delete (suc i) (y ∷ l) (List·Memᴰ·head p) = List·Memᴰ·head p
+  mem-delete (suc i) (y ∷ l) (List·Memᴰ·tail m) = List·Memᴰ·tail (mem-delete i l m)
+
+  pub mem-set : {x y : A} (l : List A) (i : ℕ) → List·Memᴰ x (set l i y) → (x ≡ y) ⊎ List·Memᴰ x l
+  mem-set [] i m = inr m
+  mem-set (z ∷ l) zero (List·Memᴰ·head p) = inl p
+  mem-set (z ∷ l) zero (List·Memᴰ·tail m) = inr (List·Memᴰ·tail m)
+  mem-set (z ∷ l) (suc i) (List·Memᴰ·head p) = inr (List·Memᴰ·head p)
+  mem-set (z ∷ l) (suc i) (List·Memᴰ·tail m) = ⊎-map (λ p. p) (λ n. List·Memᴰ·tail n) (mem-set l i m)
+
+  pub getD-mem : {i : ℕ} (l : List A) (z : A) → i < length l → List·Memᴰ (getD l i z) l
+  getD-mem [] z h = absurd (not-suc-le-zero h)
+  getD-mem {i = zero} (x ∷ l) z h = List·Memᴰ·head refl
+  getD-mem {i = suc i} (x ∷ l) z h = List·Memᴰ·tail (getD-mem l z (le-of-suc-le-suc h))
+
+  -- a replacement before the place of a deletion: either may come first
+  pub delete-set : (l : List A) (i j : ℕ) (y : A) → i < j → deleteAt j (set l i y) ≡ set (deleteAt j l) i y
+  unfolding deleteAt
+  delete-set [] i j y h = refl
+  delete-set (x ∷ l) i zero y h = absurd (not-suc-le-zero h)
+  delete-set (x ∷ l) zero (suc j) y h = refl
+  delete-set (x ∷ l) (suc i) (suc j) y h = ap (λ r. x ∷ r) (delete-set l i j y (le-of-suc-le-suc h))
+
+  -- a replacement at the place of a deletion is lost
+  pub set-delete : (l : List A) (i : ℕ) (y : A) → deleteAt i (set l i y) ≡ deleteAt i l
+  unfolding deleteAt
+  set-delete [] i y = refl
+  set-delete (x ∷ l) zero y = refl
+  set-delete (x ∷ l) (suc i) y = ap (λ r. x ∷ r) (set-delete l i y)
+
+  -- an element before the place of a deletion keeps its own
+  pub getD-delete : (l : List A) (i j : ℕ) (z : A) → i < j → getD (deleteAt j l) i z ≡ getD l i z
+  unfolding deleteAt
+  getD-delete [] i j z h = refl
+  getD-delete (x ∷ l) i zero z h = absurd (not-suc-le-zero h)
+  getD-delete (x ∷ l) zero (suc j) z h = refl
+  getD-delete (x ∷ l) (suc i) (suc j) z h = getD-delete l i j z (le-of-suc-le-suc h)
+
+module _ {A B : Type 0} (f : A → B) where
+  pub map-delete : (i : ℕ) (l : List A) → map f (deleteAt i l) ≡ deleteAt i (map f l)
+  unfolding deleteAt
+  map-delete i [] = refl
+  map-delete zero (x ∷ l) = refl
+  map-delete (suc i) (x ∷ l) = ap (λ r. f x ∷ r) (map-delete i l)
+
+  pub map-set : (l : List A) (i : ℕ) (y : A) → map f (set l i y) ≡ set (map f l) i (f y)
+  map-set [] i y = refl
+  map-set (x ∷ l) zero y = refl
+  map-set (x ∷ l) (suc i) y = ap (λ r. f x ∷ r) (map-set l i y)
