@@ -1,5 +1,7 @@
 pub mod Examples
 pub mod Lists
+pub mod Searches
 pub mod States
+pub mod Validity
 pub mod Steps
 pub mod Counts
