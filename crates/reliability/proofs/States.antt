@@ -151,12 +151,91 @@ joined-law vs es i j m h k =
 
 -- ---- contraction
 
-renamed : ℕ → ℕ → Ends → Ends
-renamed keep gone e = record { a = rename keep gone (e .a); b = rename keep gone (e .b) }
+rename-gone : (keep gone : ℕ) → rename keep gone gone ≡ keep
+rename-gone keep gone = rw (eq-eqb gone gone refl)
+
+rename-other : (keep gone : ℕ) {v : ℕ} → (v ≡ gone → ⊥) → rename keep gone v ≡ v
+rename-other keep gone {v} n = rw (ne-eqb v gone n)
+
+-- where both have one colour, a node keeps its own
+rename-colour : (χ : ℕ → ℕ) {keep gone : ℕ} → χ keep ≡ χ gone → (v : ℕ) → χ (rename keep gone v) ≡ χ v
+rename-colour χ {keep} {gone} h v = go (eqb v gone) refl
+  where
+    go : (b : Bool) → eqb v gone ≡ b → χ (cond b keep v) ≡ χ v
+    go true e = h ∙ ap χ (sym (eqb-true v gone e))
+    go false e = refl
+
+moved-off : (keep gone : ℕ) (es : List Weighted) → AllOff gone es → map (moved keep gone) es ≡ es
+moved-off keep gone [] off = refl
+moved-off keep gone (e ∷ es) off =
+    let o = off e (List·Memᴰ·head refl) in
+    rw (rename-other keep gone (o .0), rename-other keep gone (o .1), moved-off keep gone es (λ f m. off f (List·Memᴰ·tail m)))
 
 module _ (vs : List ℕ) (keep gone : ℕ) (differ : keep ≡ gone → ⊥) (ink : List·Memᴰ keep vs) where
-  rename-gone : rename keep gone gone ≡ keep
-  rename-gone = rw (eq-eqb gone gone refl)
+  -- s is t with gone renamed to keep: the colourings of s are those of t, and t gives keep and gone one colour
+  abbrev Contracts : List Ends → List Ends → Type 0
+  Contracts t s = (χ : ℕ → ℕ) → (Const χ s → Const (λ v. χ (rename keep gone v)) t) × (Const χ t → (χ keep ≡ χ gone) × Const χ s)
+
+  kept : (v : ℕ) → List·Memᴰ v vs → List·Memᴰ (rename keep gone v) (without gone vs)
+  kept v m = go (eqb v gone) refl
+    where
+      go : (b : Bool) → eqb v gone ≡ b → List·Memᴰ (cond b keep v) (without gone vs)
+      go true e = without-mem gone keep vs ink differ
+      go false e = without-mem gone v vs m (eqb-false v gone e)
+
+  contracted-connected : (t s : List Ends) → Contracts t s → connected vs t ≡ connected (without gone vs) s
+  contracted-connected t s k = connected-eq vs (without gone vs) t s out into
+    where
+      out : Conn vs t → Conn (without gone vs) s
+      out c χ h p q mp mq =
+          let pv = mem-without gone p vs mp in
+          let qv = mem-without gone q vs mq in
+          ap χ (sym (rename-other keep gone (pv .1))) ∙ c (λ v. χ (rename keep gone v)) (k χ .0 h) p q (pv .0) (qv .0) ∙ ap χ (rename-other keep gone (qv .1))
+
+      into : Conn (without gone vs) s → Conn vs t
+      into c χ h p q mp mq =
+          let r = k χ .1 h in
+          sym (rename-colour χ (r .0) p) ∙ c χ (r .1) (rename keep gone p) (rename keep gone q) (kept p mp) (kept q mq) ∙ rename-colour χ (r .0) q
+
+  contracted : (es : List Weighted) (t s : List Ends) → Contracts t s → sum vs es t ≡ sum (without gone vs) (map (moved keep gone) es) s
+  unfolding sum
+  contracted [] t s k = ap (λ b. cond b 1 0) (contracted-connected t s k)
+  contracted (e ∷ es) t s k =
+      ap₂ (λ p q. e .sound * p + e .broken * q) (contracted es (e .joins ∷ t) (moved keep gone e .joins ∷ s) with-e) (contracted es t s k)
+    where
+      with-e : Contracts (e .joins ∷ t) (moved keep gone e .joins ∷ s)
+      with-e χ = (
+        λ c. (c .0, k χ .0 (c .1)),
+        λ c. let r = k χ .1 (c .1) in (r .0, (rename-colour χ (r .0) (e .joins .a) ∙ c .0 ∙ sym (rename-colour χ (r .0) (e .joins .b)), r .1)),
+      )
+
+  -- a link between the two is contracted to nothing
+  contracts : (e : Ends) → Joins e gone keep → Contracts (e ∷ []) []
+  contracts e j χ = (
+    λ c. (joins-colour e gone keep j (λ v. χ (rename keep gone v)) .1 (ap χ (rename-gone keep gone ∙ sym (rename-other keep gone differ))), tt),
+    λ c. (sym (joins-colour e gone keep j χ .0 (c .0)), tt),
+  )
+
+-- a node that no link touches, with another beside it: nothing connects
+lone : (vs : List ℕ) (es : List Weighted) (v w : ℕ) → (w ≡ v → ⊥) → List·Memᴰ v vs → List·Memᴰ w vs → AllOff v es → sum vs es [] ≡ 0
+lone vs es v w differ inv inw off = none-connects vs es (go (connected vs (map (λ e. e .joins) es)) refl)
+  where
+    χ : ℕ → ℕ
+    χ u = cond (eqb u v) 1 0
+
+    dark : (u : ℕ) → (u ≡ v → ⊥) → χ u ≡ 0
+    dark u n = rw (ne-eqb u v n)
+
+    same : (fs : List Weighted) → AllOff v fs → Const χ (map (λ e. e .joins) fs)
+    same [] o = tt
+    same (f ∷ fs) o = let p = o f (List·Memᴰ·head refl) in (dark (f .joins .a) (p .0) ∙ sym (dark (f .joins .b) (p .1)), same fs (λ g m. o g (List·Memᴰ·tail m)))
+
+    go : (b : Bool) → connected vs (map (λ e. e .joins) es) ≡ b → connected vs (map (λ e. e .joins) es) ≡ false
+    go false e = e
+    go true e = let h = connected-sound vs _ e χ (same es off) w v inw inv in absurd (omega (arith, dark w differ, h, one))
+      where
+        one : χ v ≡ 1
+        one = rw (eq-eqb v v refl)
 
 module _ (vs : List ℕ) (es : List Weighted) (z : Weighted) (v w : ℕ) (differ : w ≡ v → ⊥) (inv : List·Memᴰ v vs) (inw : List·Memᴰ w vs) where
   -- step 5: an end multiplies
