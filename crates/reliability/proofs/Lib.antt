@@ -1,5 +1,6 @@
 pub mod Examples
 pub mod Lists
+pub mod Connection
 pub mod Searches
 pub mod States
 pub mod Validity

@@ -1,6 +1,6 @@
 -- What each search of the rule finds.
-use Prim.Native.Nat.{ℕ, zero, suc, _≤_, _<_, suc-le-suc, zero-le}
-use mathlib.Core.Path.{_≡_, refl, sym, ap, _∙_, subst}
+use Prim.Native.Nat.{ℕ, zero, suc, _<_, suc-le-suc, zero-le}
+use mathlib.Core.Path.{_≡_, refl, ap, _∙_}
 use mathlib.Core.List.{List, [], _∷_, map, List·Memᴰ, List·Memᴰ·head, List·Memᴰ·tail}
 use mathlib.Core.Bool.{Bool, true, false}
 use mathlib.Core.Option.{Option, some, none, Option·map}
@@ -16,15 +16,15 @@ Answers P N (some a) = P a
 Answers P N none = N
 
 -- the link at place i
-abbrev pub at : List Link → ℕ → Link
-at es i = getD es i (linked 0 0 (λ d. 0))
+abbrev pub nth : List Link → ℕ → Link
+nth es i = getD es i (linked 0 0 (λ d. 0))
 
 -- ---- places at which a test holds
 
 module _ (p : Link → Bool) where
   pub record Holds (es : List Link) (i : ℕ) : Type 0 where
     pub place : i < length es
-    pub test : p (at es i) ≡ true
+    pub test : p (nth es i) ≡ true
 
   abbrev pub Fails : List Link → Type 0
   Fails es = (e : Link) → List·Memᴰ e es → p e ≡ false
@@ -85,7 +85,7 @@ module _ (p : Link → Bool) where
 pub record Pair (es : List Link) (ij : ℕ × ℕ) : Type 0 where
   pub order : ij .0 < ij .1
   pub place : ij .1 < length es
-  pub test : alike (at es (ij .0)) (at es (ij .1)) ≡ true
+  pub test : alike (nth es (ij .0)) (nth es (ij .1)) ≡ true
 
 pub first-pair : (es : List Link) → Answers (Pair es) (Unit {0}) (firstPair es)
 unfolding firstPair
@@ -98,12 +98,14 @@ first-pair (e ∷ es) = go (firstAt (alike e) es) (first-at (alike e) es) (first
     go none h (some ij) k = record { order = suc-le-suc (k .order); place = suc-le-suc (k .place); test = k .test }
     go none h none k = tt
 
--- what holds of a rule's answer at each node holds of the answer
+-- what holds of a rule's answer at each node holds of the lowest node's
 pub lowest-of : (P : Step → Type 0) (rule : ℕ → List ℕ → Option Step) (es : List Link) (vs : List ℕ)
-    → ((v : ℕ) → List·Memᴰ v vs → Answers P (Unit {0}) (rule v (places (touches v) es))) → Answers P (Unit {0}) (lowest rule es vs)
+    → ((v : ℕ) → List·Memᴰ v vs → (is : List ℕ) → Placed (touches v) es is → Answers P (Unit {0}) (rule v is))
+    → Answers P (Unit {0}) (lowest rule es vs)
 unfolding lowest
 lowest-of P rule es [] h = tt
-lowest-of P rule es (v ∷ vs) h = go (rule v (places (touches v) es)) (h v (List·Memᴰ·head refl)) (lowest-of P rule es vs (λ u m. h u (List·Memᴰ·tail m)))
+lowest-of P rule es (v ∷ vs) h =
+    go (rule v (places (touches v) es)) (h v (List·Memᴰ·head refl) (places (touches v) es) (placed (touches v) es)) (lowest-of P rule es vs (λ u m. h u (List·Memᴰ·tail m)))
   where
     go : (o : Option Step) → Answers P (Unit {0}) o → Answers P (Unit {0}) (lowest rule es vs) → Answers P (Unit {0}) (elim o [ some s ↦ some s | none ↦ lowest rule es vs ])
     go (some s) h k = h

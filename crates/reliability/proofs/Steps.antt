@@ -1,5 +1,5 @@
 -- What is known where a step fits, and that what it leaves is a valid network with one link less.
-use Prim.Native.Nat.{ℕ, zero, suc, _≤_, _<_, zero-le, suc-le-suc}
+use Prim.Native.Nat.{ℕ, suc, _≤_, _<_, zero-le, suc-le-suc}
 use mathlib.Core.Path.{_≡_, refl, sym, _∙_, subst}
 use mathlib.Core.List.{List, [], _∷_, map, List·Memᴰ, List·Memᴰ·head}
 use mathlib.Core.Bool.{Bool, true, false, cond, not, _&&_, _||_, true≢false, and-eq-true-iff}
@@ -18,9 +18,9 @@ use Rattle.reliability.specs.declared.Link.{Link}
 use Rattle.reliability.specs.declared.Step.{Step}
 use Rattle.reliability.specs.declared.Step.the-variants.{OneNode, Disconnected, Loop, Parallel, End, Series, Split}
 use Rattle.reliability.specs.Networks.{Network, Ascending, Proper, Valid, ends, value, linkAt, label, every, connected}
-use Rattle.reliability.specs.Rule.{isLoop, touches, alike, firstAt, firstPair, places, lowest, endOf, seriesOf, chosen, when, _otherwise_, next, deleteAt, deleted, removed, joined, across, inSeries, inParallel, leaves, Remainder, settled, rest, scaled, branches}
+use Rattle.reliability.specs.Rule.{isLoop, touches, alike, firstAt, firstPair, lowest, endOf, seriesOf, chosen, when, _otherwise_, next, deleteAt, deleted, removed, joined, across, inSeries, leaves, Remainder, settled, rest, scaled, branches}
 use Rattle.reliability.proofs.Lists.{length-delete, getD-mem}
-use Rattle.reliability.proofs.Searches.{Answers, Holds, Fails, first-at, Placed, placed, Pair, first-pair, lowest-of}
+use Rattle.reliability.proofs.Searches.{Answers, Holds, Fails, first-at, Placed, Pair, first-pair, lowest-of}
 use Rattle.reliability.proofs.States.{Joins, Off}
 use Rattle.reliability.proofs.Validity.{proper-at, deleted-valid, joined-valid, removed-valid, contracted-valid, parallel-proper, series-proper, mem-joined}
 
@@ -107,21 +107,26 @@ unfolding Ascending connected label every
 some-link vs (e ∷ es) a c h = suc-le-suc zero-le
 some-link [] [] a c h = absurd (not-suc-le-zero h)
 some-link (v ∷ []) [] a c h = absurd (omega arith)
-some-link (v ∷ (u ∷ vs)) [] a c h = absurd (omega (arith, a .0 u (List·Memᴰ·head refl), eqb-true u v (and-eq-true-iff (eqb u v) (every (λ w. eqb w v) vs) .0 c .0)))
+some-link (v ∷ (u ∷ vs)) [] a c h =
+    let same = and-eq-true-iff (eqb u v) (every (λ w. eqb w v) vs) .0 c .0 in
+    absurd (omega (arith, a .0 u (List·Memᴰ·head refl), eqb-true u v same))
 
 -- ---- which step fits
 
-module _ (g : Network) (valid : Valid g) (proper : Fails isLoop (g .links)) where
-  leg : (v i : ℕ) → Holds (touches v) (g .links) i → Leg v (linkAt g i)
-  leg v i h = touches-leg v (linkAt g i) (h .test) (proper (linkAt g i) (getD-mem (g .links) _ (h .place)))
+abbrev FitsIf : Network → Option Step → Type 0
+FitsIf g o = Answers (Fits g) (Unit {0}) o
 
-  end-fits : (v : ℕ) → List·Memᴰ v (g .nodes) → (is : List ℕ) → Placed (touches v) (g .links) is → Answers (Fits g) (Unit {0}) (endOf v is)
+module _ (g : Network) (valid : Valid g) (no-loop : Fails isLoop (g .links)) where
+  leg : (v i : ℕ) → Holds (touches v) (g .links) i → Leg v (linkAt g i)
+  leg v i h = touches-leg v (linkAt g i) (h .test) (no-loop (linkAt g i) (getD-mem (g .links) _ (h .place)))
+
+  end-fits : (v : ℕ) → List·Memᴰ v (g .nodes) → (is : List ℕ) → Placed (touches v) (g .links) is → FitsIf g (endOf v is)
   end-fits v n [] h = tt
   end-fits v n (i ∷ []) h =
       record { node = n; place = h .0 .place; leg = leg v i (h .0); others = λ e m. misses-off v e (h .1 e m) }
   end-fits v n (i ∷ (j ∷ r)) h = tt
 
-  series-fits : (v : ℕ) → List·Memᴰ v (g .nodes) → (is : List ℕ) → Placed (touches v) (g .links) is → Answers (Fits g) (Unit {0}) (seriesOf v is)
+  series-fits : (v : ℕ) → List·Memᴰ v (g .nodes) → (is : List ℕ) → Placed (touches v) (g .links) is → FitsIf g (seriesOf v is)
   series-fits v n [] h = tt
   series-fits v n (i ∷ []) h = tt
   series-fits v n (i ∷ (j ∷ [])) h =
@@ -131,7 +136,8 @@ module _ (g : Network) (valid : Valid g) (proper : Fails isLoop (g .links)) wher
   split-fits : leb (length (g .nodes)) 1 ≡ false → connected (g .nodes) (map ends (g .links)) ≡ true → AtSplit g (chosen g)
   split-fits h k =
       let place = some-link (g .nodes) (g .links) (valid .ascending) k (leb-false (length (g .nodes)) 1 h) in
-      record { place = place; differ = eqb-false (linkAt g 0 .a) (linkAt g 0 .b) (proper (linkAt g 0) (getD-mem (g .links) _ place)) }
+      let e = linkAt g (chosen g) in
+      record { place = place; differ = eqb-false (e .a) (e .b) (no-loop e (getD-mem (g .links) _ place)) }
 
 -- by the answer of each test in turn
 fits-by : (g : Network) → Valid g
@@ -139,13 +145,16 @@ fits-by : (g : Network) → Valid g
     → (one : Bool) → leb (length (g .nodes)) 1 ≡ one
     → (whole : Bool) → connected (g .nodes) (map ends (g .links)) ≡ whole
     → (pair : Option (ℕ × ℕ)) → Answers (Pair (g .links)) (Unit {0}) pair
-    → (end : Option Step) → (Fails isLoop (g .links) → Answers (Fits g) (Unit {0}) end)
-    → (series : Option Step) → (Fails isLoop (g .links) → Answers (Fits g) (Unit {0}) series)
-    → Fits g (Option·map Loop loop otherwise when one OneNode otherwise when (not whole) Disconnected otherwise Option·map (λ ij. Parallel (ij .0) (ij .1)) pair otherwise end otherwise series otherwise Split (chosen g))
-fits-by g valid (some i) l one o whole w pair p end e series s = record { place = l .place; same = eqb-true (linkAt g i .a) (linkAt g i .b) (l .test) }
+    → (end : Option Step) → (Fails isLoop (g .links) → FitsIf g end)
+    → (series : Option Step) → (Fails isLoop (g .links) → FitsIf g series)
+    → Fits g (Option·map Loop loop otherwise when one OneNode otherwise when (not whole) Disconnected
+    otherwise Option·map (λ ij. Parallel (ij .0) (ij .1)) pair otherwise end otherwise series otherwise Split (chosen g))
+fits-by g valid (some i) l one o whole w pair p end e series s =
+    record { place = l .place; same = eqb-true (linkAt g i .a) (linkAt g i .b) (l .test) }
 fits-by g valid none l true o whole w pair p end e series s = leb-true (length (g .nodes)) 1 o
 fits-by g valid none l false o false w pair p end e series s = w
-fits-by g valid none l false o true w (some ij) p end e series s = record { order = p .order; place = p .place; alike = alike-joins (linkAt g (ij .0)) (linkAt g (ij .1)) (p .test) }
+fits-by g valid none l false o true w (some ij) p end e series s =
+    record { order = p .order; place = p .place; alike = alike-joins (linkAt g (ij .0)) (linkAt g (ij .1)) (p .test) }
 fits-by g valid none l false o true w none p (some t) e series s = e l
 fits-by g valid none l false o true w none p none e (some t) s = s l
 fits-by g valid none l false o true w none p none e none s = split-fits g valid l o w
@@ -153,10 +162,11 @@ fits-by g valid none l false o true w none p none e none s = split-fits g valid 
 pub fits : (g : Network) → Valid g → Fits g (next g)
 unfolding next
 fits g valid =
-    fits-by g valid (firstAt isLoop (g .links)) (first-at isLoop (g .links)) (leb (length (g .nodes)) 1) refl (connected (g .nodes) (map ends (g .links))) refl
-    (firstPair (g .links)) (first-pair (g .links))
-    (lowest endOf (g .links) (g .nodes)) (λ l. lowest-of (Fits g) endOf (g .links) (g .nodes) (λ v n. end-fits g valid l v n (places (touches v) (g .links)) (placed (touches v) (g .links))))
-    (lowest seriesOf (g .links) (g .nodes)) (λ l. lowest-of (Fits g) seriesOf (g .links) (g .nodes) (λ v n. series-fits g valid l v n (places (touches v) (g .links)) (placed (touches v) (g .links))))
+    let es = g .links in
+    let vs = g .nodes in
+    fits-by g valid (firstAt isLoop es) (first-at isLoop es) (leb (length vs) 1) refl (connected vs (map ends es)) refl (firstPair es) (first-pair es)
+    (lowest endOf es vs) (λ l. lowest-of (Fits g) endOf es vs (end-fits g valid l))
+    (lowest seriesOf es vs) (λ l. lowest-of (Fits g) seriesOf es vs (series-fits g valid l))
 
 -- ---- what a step leaves
 
@@ -201,9 +211,10 @@ module _ (m : ℕ) (g : Network) (h : Sized (suc m) g) where
       let f = linkAt g j in
       let p : Proper (g .nodes) e = proper (omega arith) in
       let q = proper (k .place) in
-      let new = inSeries v e f in (
-        removed-sized v (joined i j new g) (joined-sized new (k .order) (k .place) (series-proper (g .nodes) e f p q v))
-            (λ x n. ⊎-elim (λ (r : x ≡ new). subst (λ (y : Link). Off v (ends y)) (sym r) (k .first .differ, k .second .differ)) (k .others x) (mem-joined (g .links) i j (k .order) n)),
+      let new = inSeries v e f in
+      let off : Clear v (joined i j new g .links) =
+      λ x n. ⊎-elim (λ (r : x ≡ new). subst (λ (y : Link). Off v (ends y)) (sym r) (k .first .differ, k .second .differ)) (k .others x) (mem-joined (g .links) i j (k .order) n) in (
+        removed-sized v (joined i j new g) (joined-sized new (k .order) (k .place) (series-proper (g .nodes) e f p q v)) off,
         λ d. factor-range d (value d e) (value d f) (p .range d) (q .range d),
       )
   left-by (Split i) k =

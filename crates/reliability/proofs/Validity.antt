@@ -1,7 +1,7 @@
 -- What keeps a network valid: deletion, joining, removal of a node, contraction.
 use Prim.Native.Nat.{ℕ, _<_, _≤_, min, max}
 use mathlib.Core.Path.{_≡_, refl, sym, subst}
-use mathlib.Core.List.{List, [], _∷_, map, List·Memᴰ, Memᴰ·cast, Memᴰ·of-map}
+use mathlib.Core.List.{List, [], _∷_, List·Memᴰ, Memᴰ·cast, Memᴰ·of-map}
 use mathlib.Core.Bool.{Bool, true, false, cond}
 use mathlib.Core.Logic.{_⊎_, ⊎-elim}
 use native.Mathlib.Omega.{arith}
@@ -37,21 +37,21 @@ mem-joined {e} {f} es i j h m = mem-set (deleteAt j es) i (subst (List·Memᴰ f
 
 -- ---- links
 
+across-node : (vs : List ℕ) (v : ℕ) (e : Link) → Proper vs e → List·Memᴰ (across v e) vs
+across-node vs v e p = go (eqb (e .a) v)
+  where
+    go : (t : Bool) → List·Memᴰ (cond t (e .b) (e .a)) vs
+    go true = p .b-node
+    go false = p .a-node
+
 module _ (vs : List ℕ) (e f : Link) (p : Proper vs e) (q : Proper vs f) where
   pub parallel-proper : Proper vs (inParallel e f)
   parallel-proper =
       record { a-node = p .a-node; b-node = p .b-node; range = λ d. rw value-linked (parallel-range d (value d e) (value d f) (p .range d) (q .range d)) }
 
-  across-node : (v : ℕ) (k : Link) → Proper vs k → List·Memᴰ (across v k) vs
-  across-node v k r = go (eqb (k .a) v)
-    where
-      go : (t : Bool) → List·Memᴰ (cond t (k .b) (k .a)) vs
-      go true = r .b-node
-      go false = r .a-node
-
   pub series-proper : (v : ℕ) → Proper vs (inSeries v e f)
   series-proper v =
-      record { a-node = across-node v e p; b-node = across-node v f q; range = λ d. rw value-linked (series-range d (value d e) (value d f) (p .range d) (q .range d)) }
+      record { a-node = across-node vs v e p; b-node = across-node vs v f q; range = λ d. rw value-linked (series-range d (value d e) (value d f) (p .range d) (q .range d)) }
 
 -- ---- networks
 
