@@ -31,7 +31,7 @@ pub bounds-map : (d : Direction) (f : ℕ → ℕ → ℕ) → ((x x′ y y′ :
 bounds-map Down f mono {a} {a′} {b} {b′} h k = record { order = mono a a′ b b′ (h .order) (k .order) }
 bounds-map Up f mono {a} {a′} {b} {b′} h k = record { order = mono a′ a b′ b (h .order) (k .order) }
 
-side-bounded : (d : Direction) (b : Direction → ℕ) (s : ℕ) (t : Bool) → side d (bounded b s t) ≡ b d
+pub side-bounded : (d : Direction) (b : Direction → ℕ) (s : ℕ) (t : Bool) → side d (bounded b s t) ≡ b d
 side-bounded Down b s t = refl
 side-bounded Up b s t = refl
 

@@ -3,7 +3,7 @@ use Prim.Native.Nat.{ℕ, _<_, _≤_, min, max}
 use mathlib.Core.Path.{_≡_, refl, sym, subst}
 use mathlib.Core.List.{List, [], _∷_, List·Memᴰ, Memᴰ·cast, Memᴰ·of-map}
 use mathlib.Core.Bool.{Bool, true, false, cond}
-use mathlib.Core.Logic.{_⊎_, ⊎-elim}
+use mathlib.Core.Logic.{_⊎_, inl, inr, ⊎-elim}
 use native.Mathlib.Omega.{arith}
 use native.Mathlib.Decide.{decLe}
 use lib.Dec.{eqb}
@@ -16,7 +16,7 @@ use Rattle.reliability.specs.declared.Link.{Link}
 use Rattle.reliability.specs.Networks.{Network, Ascending, Proper, Valid, ends, value, linked, linkAt}
 use Rattle.reliability.specs.Rule.{across, inParallel, inSeries, rename, renamed, deleteAt, without, deleted, removed, joined, contracted}
 use Rattle.reliability.proofs.Lists.{mem-delete, mem-set, delete-set, getD-mem, mem-without, without-mem}
-use Rattle.reliability.proofs.States.{Off}
+use Rattle.reliability.proofs.States.{Joins, Off}
 
 pub value-linked : (d : Direction) (a b : ℕ) (v : Direction → ℕ) → value d (linked a b v) ≡ v d
 value-linked Down a b v = refl
@@ -37,12 +37,23 @@ mem-joined {e} {f} es i j h m = mem-set (deleteAt j es) i (subst (List·Memᴰ f
 
 -- ---- links
 
-across-node : (vs : List ℕ) (v : ℕ) (e : Link) → Proper vs e → List·Memᴰ (across v e) vs
+pub across-node : (vs : List ℕ) (v : ℕ) (e : Link) → Proper vs e → List·Memᴰ (across v e) vs
 across-node vs v e p = go (eqb (e .a) v)
   where
     go : (t : Bool) → List·Memᴰ (cond t (e .b) (e .a)) vs
     go true = p .b-node
     go false = p .a-node
+
+-- a link joins the larger of its ends to the smaller
+pub larger-smaller : (e : Link) → Joins (ends e) (max (e .a) (e .b)) (min (e .a) (e .b))
+larger-smaller e = go (decLe (e .a) (e .b))
+  where
+    go : Dec (e .a ≤ e .b) → Joins (ends e) (max (e .a) (e .b)) (min (e .a) (e .b))
+    go (yes h) = inr (omega arith, omega arith)
+    go (no h) = inl (omega arith, omega arith)
+
+pub smaller-node : (vs : List ℕ) (e : Link) → Proper vs e → List·Memᴰ (min (e .a) (e .b)) vs
+smaller-node vs e p = ⊎-elim (λ q. Memᴰ·cast (sym (q .1)) (p .b-node)) (λ q. Memᴰ·cast (sym (q .0)) (p .a-node)) (larger-smaller e)
 
 module _ (vs : List ℕ) (e f : Link) (p : Proper vs e) (q : Proper vs f) where
   pub parallel-proper : Proper vs (inParallel e f)
@@ -82,18 +93,11 @@ module _ (g : Network) (valid : Valid g) where
     abbrev gone : ℕ
     gone = max (e .a) (e .b)
 
-    keep-node : List·Memᴰ keep (g .nodes)
-    keep-node = go (decLe (e .a) (e .b))
-      where
-        go : Dec (e .a ≤ e .b) → List·Memᴰ keep (g .nodes)
-        go (yes h) = Memᴰ·cast (omega arith) (p .a-node)
-        go (no h) = Memᴰ·cast (omega arith) (p .b-node)
-
     rename-node : (u : ℕ) → List·Memᴰ u (g .nodes) → List·Memᴰ (rename keep gone u) (without gone (g .nodes))
     rename-node u n = go (eqb u gone) refl
       where
         go : (t : Bool) → eqb u gone ≡ t → List·Memᴰ (cond t keep u) (without gone (g .nodes))
-        go true q = without-mem gone keep (g .nodes) keep-node (λ r. differ (omega arith))
+        go true q = without-mem gone keep (g .nodes) (smaller-node (g .nodes) e p) (λ r. differ (omega arith))
         go false q = without-mem gone u (g .nodes) n (eqb-false u gone q)
 
     pub contracted-valid : Valid (contracted e g)
