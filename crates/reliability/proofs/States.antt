@@ -216,6 +216,13 @@ module _ (vs : List ℕ) (keep gone : ℕ) (differ : keep ≡ gone → ⊥) (ink
     λ c. (sym (joins-colour e gone keep j χ .0 (c .0)), tt),
   )
 
+  -- links that do not touch gone stay as they are
+  shrunk : (es : List Weighted) → AllOff gone es → (t s : List Ends) → Contracts t s → sum vs es t ≡ sum (without gone vs) es s
+  shrunk es off t s k = contracted es t s k ∙ ap (λ l. sum (without gone vs) l s) (moved-off keep gone es off)
+
+  pendant : (es : List Weighted) → AllOff gone es → (e : Ends) → Joins e gone keep → sum vs es (e ∷ []) ≡ sum (without gone vs) es []
+  pendant es off e j = shrunk es off (e ∷ []) [] (contracts e j)
+
 -- a node that no link touches, with another beside it: nothing connects
 lone : (vs : List ℕ) (es : List Weighted) (v w : ℕ) → (w ≡ v → ⊥) → List·Memᴰ v vs → List·Memᴰ w vs → AllOff v es → sum vs es [] ≡ 0
 lone vs es v w differ inv inw off = none-connects vs es (go (connected vs (map (λ e. e .joins) es)) refl)
@@ -241,20 +248,47 @@ module _ (vs : List ℕ) (es : List Weighted) (z : Weighted) (v w : ℕ) (differ
   -- step 5: an end multiplies
   pub end-law : (i : ℕ) → i < length es → Joins (getD es i z .joins) v w → AllOff v (deleteAt i es)
       → sum vs es [] ≡ getD es i z .sound * sum (without v vs) (deleteAt i es) []
-  end-law i h j off = ?
+  end-law i h j off =
+      front vs es [] i z h
+      ∙ rw (pendant vs w v differ inw (deleteAt i es) off (getD es i z .joins) j, lone vs (deleteAt i es) v w differ inv inw off)
+      (simp (mul-zero, add-zero))
 
   -- step 6: two links in series are one, which is broken where one of them alone is
   pub series-law : (u : ℕ) → (u ≡ v → ⊥) → List·Memᴰ u vs → (i j : ℕ) → i < j → j < length es
       → Joins (getD es i z .joins) v w → Joins (getD es j z .joins) v u → AllOff v (deleteAt i (deleteAt j es))
       → let e = getD es i z in let f = getD es j z in let others = deleteAt i (deleteAt j es) in
       sum vs es [] ≡ e .sound * f .sound * sum (without v vs) others (record { a = w; b = u } ∷ []) + (e .sound * f .broken + e .broken * f .sound) * sum (without v vs) others []
-  series-law u ud inu i j h k p q off = ?
+  series-law u ud inu i j h k p q off =
+      front-two vs es i j z h k
+      ∙ rw (
+        shrunk vs w v differ inw others off (e ∷ f ∷ []) (record { a = w; b = u } ∷ []) both,
+        pendant vs u v ud inu others off f q,
+        pendant vs w v differ inw others off e p,
+        lone vs others v w differ inv inw off,
+      ) (simp (mul-zero, add-zero, ring))
+    where
+      e : Ends
+      e = getD es i z .joins
+
+      f : Ends
+      f = getD es j z .joins
+
+      others : List Weighted
+      others = deleteAt i (deleteAt j es)
+
+      both : Contracts vs w v differ inw (e ∷ f ∷ []) (record { a = w; b = u } ∷ [])
+      both χ = let k = contracts vs w v differ inw e p χ in (
+        λ c. (k .0 tt .0, (joins-colour f v u q (λ n. χ (rename w v n)) .1 (ap χ (rename-gone w v) ∙ c .0 ∙ ap χ (sym (rename-other w v ud))), tt)),
+        λ c. let wv = k .1 (c .0, tt) .0 in (wv, (wv ∙ joins-colour f v u q χ .0 (c .1 .0), tt)),
+      )
 
 -- step 7: the sets that hold a link are those of the contracted network
 pub split-law : (vs : List ℕ) (es : List Weighted) (i : ℕ) (z : Weighted) → i < length es
     → (keep gone : ℕ) → (keep ≡ gone → ⊥) → List·Memᴰ keep vs → Joins (getD es i z .joins) gone keep
     → sum vs es [] ≡ getD es i z .sound * sum (without gone vs) (map (moved keep gone) (deleteAt i es)) [] + getD es i z .broken * sum vs (deleteAt i es) []
-split-law vs es i z h keep gone differ ink j = ?
+split-law vs es i z h keep gone differ ink j =
+    let e = getD es i z .joins in
+    front vs es [] i z h ∙ rw (contracted vs keep gone differ ink (deleteAt i es) (e ∷ []) [] (contracts vs keep gone differ ink e j))
 
 -- the same links with other weights: each sound weight is the larger share of its total on the right
 abbrev pub Raised : Weighted → Weighted → Type 0
@@ -264,6 +298,20 @@ pub data AllRaised : List Weighted → List Weighted → Type 0 where
   nil : AllRaised [] []
   cons : {e f : Weighted} {es fs : List Weighted} → Raised e f → AllRaised es fs → AllRaised (e ∷ es) (f ∷ fs)
 
+larger-share : (x y x′ y′ : ℕ) {a b : ℕ} → x * (x′ + y′) ≤ x′ * (x + y) → b ≤ a → (x * a + y * b) * (x′ + y′) ≤ (x′ * a + y′ * b) * (x + y)
+larger-share x y x′ y′ {a} {b} h k =
+    let rest : y * (x′ + y′) * b + x * (x′ + y′) * b ≡ x′ * (x + y) * b + y′ * (x + y) * b = simp ring in
+    let left : (x * a + y * b) * (x′ + y′) ≡ x * (x′ + y′) * a + y * (x′ + y′) * b = simp ring in
+    let right : (x′ * a + y′ * b) * (x + y) ≡ x′ * (x + y) * a + y′ * (x + y) * b = simp ring in
+    omega (arith, rearranged h k)
+
 -- raising a value raises the sum
 pub raised : (vs : List ℕ) (es fs : List Weighted) (t : List Ends) → AllRaised es fs → sum vs es t * total fs ≤ sum vs fs t * total es
-raised vs es fs t r = ?
+unfolding sum total
+raised vs es fs t nil = le-refl _
+raised vs es fs t (cons {e} {f} {es = es′} {fs = fs′} r rs) =
+    let a = raised vs es′ fs′ (e .joins ∷ t) rs in
+    let b = raised vs es′ fs′ t rs in
+    let first = mul-le-mul-right (total fs′) (larger-share (e .sound) (e .broken) (f .sound) (f .broken) (r .1) (sum-more vs es′ (e .joins) t)) in
+    let then = mul-le-mul-left (e .sound + e .broken) (add-le-add (mul-le-mul-left (f .sound) a) (mul-le-mul-left (f .broken) b)) in
+    rw (← r .0) (simp ring (le-trans (simp ring at first) (simp ring at then)))
