@@ -1,11 +1,15 @@
 -- Lists by place: deletion, replacement and membership.
 use Prim.Native.Nat.{ℕ, zero, suc, _<_}
-use mathlib.Core.Path.{_≡_, refl, ap}
-use mathlib.Core.List.{List, [], _∷_, map, List·Memᴰ, List·Memᴰ·head, List·Memᴰ·tail}
-use mathlib.Core.Logic.{_⊎_, inl, inr, ⊎-map}
+use mathlib.Core.Path.{_≡_, refl, sym, ap, _∙_}
+use mathlib.Core.List.{List, [], _∷_, map, List·Memᴰ, List·Memᴰ·head, List·Memᴰ·tail, List·Memᴰ·not-nil, List·Memᴰ·cases-cons}
+use mathlib.Core.Bool.{Bool, true, false, and-eq-true-iff}
+use mathlib.Core.Logic.{_⊎_, _↔_, inl, inr, ⊎-map}
+use lib.Dec.{eqb}
 use native.Mathlib.Nat.{not-suc-le-zero, le-of-suc-le-suc}
 use lib.ListN.{length, getD, set}
-use Rattle.reliability.specs.Rule.{deleteAt}
+use borrow.Author.Tests.{eqb-true, eqb-false}
+use Rattle.reliability.specs.Networks.{every}
+use Rattle.reliability.specs.Rule.{deleteAt, without}
 
 module _ {A : Type 0} where
   pub length-delete : {i : ℕ} (l : List A) → i < length l → suc (length (deleteAt i l)) ≡ length l
@@ -21,10 +25,12 @@ module _ {A : Type 0} where
   mem-delete (suc i) (y ∷ l) (List·Memᴰ·head p) = List·Memᴰ·head p
   mem-delete (suc i) (y ∷ l) (List·Memᴰ·tail m) = List·Memᴰ·tail (mem-delete i l m)
 
-  pub mem-set : {x y : A} (l : List A) (i : ℕ) → List·Memᴰ x (set l i y) → (x ≡ y) ⊎ List·Memᴰ x l
+  -- after a replacement: the new element, or one of the others
+  pub mem-set : {x y : A} (l : List A) (i : ℕ) → List·Memᴰ x (set l i y) → (x ≡ y) ⊎ List·Memᴰ x (deleteAt i l)
+  unfolding deleteAt
   mem-set [] i m = inr m
   mem-set (z ∷ l) zero (List·Memᴰ·head p) = inl p
-  mem-set (z ∷ l) zero (List·Memᴰ·tail m) = inr (List·Memᴰ·tail m)
+  mem-set (z ∷ l) zero (List·Memᴰ·tail m) = inr m
   mem-set (z ∷ l) (suc i) (List·Memᴰ·head p) = inr (List·Memᴰ·head p)
   mem-set (z ∷ l) (suc i) (List·Memᴰ·tail m) = ⊎-map (λ p. p) (λ n. List·Memᴰ·tail n) (mem-set l i m)
 
@@ -56,6 +62,16 @@ module _ {A : Type 0} where
   getD-delete (x ∷ l) zero (suc j) z h = refl
   getD-delete (x ∷ l) (suc i) (suc j) z h = getD-delete l i j z (le-of-suc-le-suc h)
 
+  pub every-at : (p : A → Bool) {l : List A} {x : A} → every p l ≡ true → List·Memᴰ x l → p x ≡ true
+  unfolding every
+  every-at p {l = y ∷ l} h (List·Memᴰ·head e) = ap p e ∙ and-eq-true-iff (p y) (every p l) .0 h .0
+  every-at p {l = y ∷ l} h (List·Memᴰ·tail m) = every-at p (and-eq-true-iff (p y) (every p l) .0 h .1) m
+
+  pub every-of : (p : A → Bool) (l : List A) → ((x : A) → List·Memᴰ x l → p x ≡ true) → every p l ≡ true
+  unfolding every
+  every-of p [] h = refl
+  every-of p (y ∷ l) h = rw (h y (List·Memᴰ·head refl)) (every-of p l (λ x m. h x (List·Memᴰ·tail m)))
+
 module _ {A B : Type 0} (f : A → B) where
   pub map-delete : (i : ℕ) (l : List A) → map f (deleteAt i l) ≡ deleteAt i (map f l)
   unfolding deleteAt
@@ -67,3 +83,27 @@ module _ {A B : Type 0} (f : A → B) where
   map-set [] i y = refl
   map-set (x ∷ l) zero y = refl
   map-set (x ∷ l) (suc i) y = ap (λ r. f x ∷ r) (map-set l i y)
+
+-- without v: all but v
+module _ (v u : ℕ) where
+  pub mem-without : (l : List ℕ) → List·Memᴰ u (without v l) → List·Memᴰ u l × (u ≡ v → ⊥)
+  unfolding without
+  mem-without [] m = absurd (List·Memᴰ·not-nil m)
+  mem-without (w ∷ l) m = go (eqb w v) refl m (λ n. mem-without l n)
+    where
+      go : (t : Bool) → eqb w v ≡ t → List·Memᴰ u (elim t [ true ↦ without v l | false ↦ w ∷ without v l ])
+          → (List·Memᴰ u (without v l) → List·Memᴰ u l × (u ≡ v → ⊥)) → List·Memᴰ u (w ∷ l) × (u ≡ v → ⊥)
+      go true e m ih = (List·Memᴰ·tail (ih m .0), ih m .1)
+      go false e (List·Memᴰ·head p) ih = (List·Memᴰ·head p, λ q. eqb-false w v e (sym p ∙ q))
+      go false e (List·Memᴰ·tail m) ih = (List·Memᴰ·tail (ih m .0), ih m .1)
+
+  pub without-mem : (l : List ℕ) → List·Memᴰ u l → (u ≡ v → ⊥) → List·Memᴰ u (without v l)
+  unfolding without
+  without-mem (w ∷ l) m n = go (eqb w v) refl m (λ m. without-mem l m n)
+    where
+      go : (t : Bool) → eqb w v ≡ t → List·Memᴰ u (w ∷ l) → (List·Memᴰ u l → List·Memᴰ u (without v l))
+          → List·Memᴰ u (elim t [ true ↦ without v l | false ↦ w ∷ without v l ])
+      go true e (List·Memᴰ·head p) ih = absurd (n (p ∙ eqb-true w v e))
+      go true e (List·Memᴰ·tail m) ih = ih m
+      go false e (List·Memᴰ·head p) ih = List·Memᴰ·head p
+      go false e (List·Memᴰ·tail m) ih = List·Memᴰ·tail (ih m)

@@ -1,13 +1,21 @@
 -- Sums over the states of the links: what each reduction does to the sum.
-use Prim.Native.Nat.{ℕ, zero, suc, _+_, _*_, _-_, _≤_, _<_, min, max}
-use mathlib.Core.Path.{_≡_, refl, sym, ap, ap₂, _∙_, subst}
-use mathlib.Core.List.{List, [], _∷_, _++_, map, List·Memᴰ}
-use mathlib.Core.Bool.{Bool, true, false, cond}
-use mathlib.Core.Logic.{_⊎_, inl, inr, ⊎-elim}
-use lib.ListN.{length, getD, set}
-use Rattle.reliability.specs.Networks.{Ends, connected}
+use Prim.Native.Nat.{ℕ, zero, suc, _+_, _*_, _≤_, _<_, zero-le}
+use mathlib.Core.Path.{_≡_, refl, sym, ap, ap₂, _∙_}
+use mathlib.Core.List.{List, [], _∷_, map, List·Memᴰ, List·Memᴰ·head, List·Memᴰ·tail}
+use mathlib.Core.Bool.{Bool, true, false, cond, false≢true}
+use mathlib.Core.Logic.{_↔_, _⊎_, inl, inr}
+use lib.Dec.{eqb}
+use lib.ListN.{length, getD, set, length-set}
+use lib.Seq.{getD-set-same}
+use borrow.Author.Tests.{eqb-true, eqb-false, eq-eqb, ne-eqb}
+use native.Mathlib.Nat.{add-mul, mul-zero, add-zero, mul-one, mul-le-mul-left, mul-le-mul-right, add-le-add, le-refl, le-trans, le-of-eq, le-antisymm, not-suc-le-zero, le-of-suc-le-suc}
+use native.Mathlib.Omega.{arith}
+use Rattle.rounding.proofs.Laws.{ring, rearranged}
+use Rattle.reliability.specs.Networks.{Ends, every, connected}
 use Rattle.reliability.specs.Exact.{Weighted, sum, total}
 use Rattle.reliability.specs.Rule.{deleteAt, without, rename}
+use Rattle.reliability.proofs.Lists.{length-delete, getD-delete, delete-set, set-delete, mem-without, without-mem}
+use Rattle.reliability.proofs.Connection.{Const, Conn, connected-sound, connected-complete, connected-eq}
 
 -- e joins v and w, either way round
 abbrev pub Joins : Ends → ℕ → ℕ → Type 0
@@ -23,62 +31,264 @@ AllOff v es = (e : Weighted) → List·Memᴰ e es → Off v (e .joins)
 abbrev pub moved : ℕ → ℕ → Weighted → Weighted
 moved keep gone e = record { joins = record { a = rename keep gone (e .joins .a); b = rename keep gone (e .joins .b) }; sound = e .sound; broken = e .broken }
 
--- what all links do not connect, no set of them does
-pub none-connects : (vs : List ℕ) (es : List Weighted) → connected vs (map (λ e. e .joins) es) ≡ false → sum vs es [] ≡ 0
-none-connects vs es h = ?
+-- a colouring gives the ends of e one colour where it gives v and w one
+joins-colour : (e : Ends) (v w : ℕ) → Joins e v w → (χ : ℕ → ℕ) → (χ (e .a) ≡ χ (e .b)) ↔ (χ v ≡ χ w)
+joins-colour e v w (inl p) χ = (λ h. cc, λ h. cc)
+joins-colour e v w (inr p) χ = (λ h. cc, λ h. cc)
 
--- one node: every set connects it
-pub one-node : (vs : List ℕ) (es : List Weighted) (t : List Ends) → length vs ≤ 1 → sum vs es t ≡ total es
-one-node vs es t h = ?
+-- ---- sets, and the links added to them
+
+-- what connects more adds no less
+sum-grows : (vs : List ℕ) (es : List Weighted) (t s : List Ends) → ((χ : ℕ → ℕ) → Const χ s → Const χ t) → sum vs es t ≤ sum vs es s
+unfolding sum
+sum-grows vs [] t s h = go (connected vs t) refl
+  where
+    go : (b : Bool) → connected vs t ≡ b → cond b 1 0 ≤ cond (connected vs s) 1 0
+    go true e = rw (connected-complete vs s (λ χ c. connected-sound vs t e χ (h χ c))) (le-refl 1)
+    go false e = zero-le
+sum-grows vs (f ∷ es) t s h =
+    add-le-add
+    (mul-le-mul-left (f .sound) (sum-grows vs es (f .joins ∷ t) (f .joins ∷ s) (λ χ c. (c .0, h χ (c .1)))))
+    (mul-le-mul-left (f .broken) (sum-grows vs es t s h))
+
+sum-same : (vs : List ℕ) (es : List Weighted) (t s : List Ends) → ((χ : ℕ → ℕ) → Const χ t ↔ Const χ s) → sum vs es t ≡ sum vs es s
+sum-same vs es t s h = le-antisymm (sum-grows vs es t s (λ χ. h χ .1)) (sum-grows vs es s t (λ χ. h χ .0))
 
 -- more links connect more
 pub sum-more : (vs : List ℕ) (es : List Weighted) (e : Ends) (t : List Ends) → sum vs es t ≤ sum vs es (e ∷ t)
-sum-more vs es e t = ?
+sum-more vs es e t = sum-grows vs es t (e ∷ t) (λ χ c. c .1)
 
 pub sum-total : (vs : List ℕ) (es : List Weighted) (t : List Ends) → sum vs es t ≤ total es
-sum-total vs es t = ?
+unfolding sum total
+sum-total vs [] t = go (connected vs t)
+  where
+    go : (b : Bool) → cond b 1 0 ≤ 1
+    go true = le-refl 1
+    go false = zero-le
+sum-total vs (e ∷ es) t =
+    rw add-mul (add-le-add (mul-le-mul-left (e .sound) (sum-total vs es (e .joins ∷ t))) (mul-le-mul-left (e .broken) (sum-total vs es t)))
+
+-- one node: every set connects it
+pub one-node : (vs : List ℕ) (es : List Weighted) (t : List Ends) → length vs ≤ 1 → sum vs es t ≡ total es
+unfolding sum total connected every
+one-node [] [] t h = refl
+one-node (v ∷ []) [] t h = refl
+one-node (v ∷ u ∷ vs) [] t h = absurd (not-suc-le-zero (le-of-suc-le-suc h))
+one-node vs (e ∷ es) t h = rw (one-node vs es (e .joins ∷ t) h, one-node vs es t h) (sym (add-mul (e .sound) (e .broken) (total es)))
+
+-- what all links do not connect, no set of them does
+pub none-connects : (vs : List ℕ) (es : List Weighted) → connected vs (map (λ e. e .joins) es) ≡ false → sum vs es [] ≡ 0
+unfolding sum
+none-connects vs es h = go es [] (λ χ c. (c, tt))
+  where
+    all : List Ends
+    all = map (λ e. e .joins) es
+
+    go : (fs : List Weighted) (t : List Ends) → ((χ : ℕ → ℕ) → Const χ all → Const χ (map (λ e. e .joins) fs) × Const χ t) → sum vs fs t ≡ 0
+    go [] t k = let l = rw h at (sum-grows vs [] t all (λ χ c. k χ c .1)) in omega arith
+    go (f ∷ fs) t k =
+        rw (go fs (f .joins ∷ t) (λ χ c. let r = k χ c in (r .0 .1, (r .0 .0, r .1))), go fs t (λ χ c. let r = k χ c in (r .0 .1, r .1)))
+        (simp (mul-zero, add-zero))
+
+four : (x y u v p q r s : ℕ) → u * (x * p + y * q) + v * (x * r + y * s) ≡ x * (u * p + v * r) + y * (u * q + v * s)
+four x y u v p q r s = simp ring
 
 -- any link may come first
 pub front : (vs : List ℕ) (es : List Weighted) (t : List Ends) (i : ℕ) (z : Weighted) → i < length es
     → sum vs es t ≡ getD es i z .sound * sum vs (deleteAt i es) (getD es i z .joins ∷ t) + getD es i z .broken * sum vs (deleteAt i es) t
-front vs es t i z h = ?
+unfolding sum deleteAt
+front vs [] t i z h = absurd (not-suc-le-zero h)
+front vs (f ∷ es) t zero z h = refl
+front vs (f ∷ es) t (suc i) z h =
+    let e = getD es i z in
+    let l = le-of-suc-le-suc h in
+    let swap = sum-same vs (deleteAt i es) (e .joins ∷ f .joins ∷ t) (f .joins ∷ e .joins ∷ t) (λ χ. (λ c. (c .1 .0, (c .0, c .1 .1)), λ c. (c .1 .0, (c .0, c .1 .1)))) in
+    rw (front vs es (f .joins ∷ t) i z l, front vs es t i z l, swap) (four (e .sound) (e .broken) (f .sound) (f .broken) _ _ _ _)
 
 -- step 1: a loop connects nothing more
 pub loop-law : (vs : List ℕ) (es : List Weighted) (i : ℕ) (z : Weighted) → i < length es → getD es i z .joins .a ≡ getD es i z .joins .b
     → sum vs es [] ≡ (getD es i z .sound + getD es i z .broken) * sum vs (deleteAt i es) []
-loop-law vs es i z h l = ?
+loop-law vs es i z h l =
+    let e = getD es i z in
+    front vs es [] i z h
+    ∙ rw (sum-same vs (deleteAt i es) (e .joins ∷ []) [] (λ χ. (λ c. c .1, λ c. (ap χ l, c)))) (sym (add-mul (e .sound) (e .broken) _))
+
+front-two : (vs : List ℕ) (es : List Weighted) (i j : ℕ) (z : Weighted) → i < j → j < length es
+    → let e = getD es i z in let f = getD es j z in let others = deleteAt i (deleteAt j es) in
+    sum vs es [] ≡ f .sound * (e .sound * sum vs others (e .joins ∷ f .joins ∷ []) + e .broken * sum vs others (f .joins ∷ [])) + f .broken * (e .sound * sum vs others (e .joins ∷ []) + e .broken * sum vs others [])
+front-two vs es i j z h k =
+    front vs es [] j z k ∙ ap₂ (λ p q. getD es j z .sound * p + getD es j z .broken * q) (then (getD es j z .joins ∷ [])) (then [])
+  where
+    then : (t : List Ends)
+        → sum vs (deleteAt j es) t ≡ getD es i z .sound * sum vs (deleteAt i (deleteAt j es)) (getD es i z .joins ∷ t) + getD es i z .broken * sum vs (deleteAt i (deleteAt j es)) t
+    then t = rw (getD-delete es i j z h) at (front vs (deleteAt j es) t i z (omega (arith, length-delete es k)))
 
 -- step 4: of two links on the same two ends either will do
 pub parallel-law : (vs : List ℕ) (es : List Weighted) (i j : ℕ) (z : Weighted) → i < j → j < length es
     → (v w : ℕ) → Joins (getD es i z .joins) v w → Joins (getD es j z .joins) v w
     → let e = getD es i z in let f = getD es j z in let others = deleteAt i (deleteAt j es) in
     sum vs es [] ≡ (e .sound * f .sound + (e .sound * f .broken + e .broken * f .sound)) * sum vs others (e .joins ∷ []) + e .broken * f .broken * sum vs others []
-parallel-law vs es i j z h k v w p q = ?
+parallel-law vs es i j z h k v w p q =
+    let e = getD es i z in
+    let f = getD es j z in
+    let others = deleteAt i (deleteAt j es) in
+    let ef : (χ : ℕ → ℕ) → (χ (e .joins .a) ≡ χ (e .joins .b)) ↔ (χ (f .joins .a) ≡ χ (f .joins .b)) =
+    λ χ. let l = joins-colour (e .joins) v w p χ in let r = joins-colour (f .joins) v w q χ in (λ c. r .1 (l .0 c), λ c. l .1 (r .0 c)) in
+    front-two vs es i j z h k
+    ∙ rw (
+      sum-same vs others (e .joins ∷ f .joins ∷ []) (e .joins ∷ []) (λ χ. (λ c. (c .0, tt), λ c. (c .0, (ef χ .0 (c .0), tt)))),
+      sum-same vs others (f .joins ∷ []) (e .joins ∷ []) (λ χ. (λ c. (ef χ .1 (c .0), tt), λ c. (ef χ .0 (c .0), tt))),
+    ) (simp ring)
 
 -- a link put in the place of link i, with link j gone
 pub joined-law : (vs : List ℕ) (es : List Weighted) (i j : ℕ) (m : Weighted) → i < j → j < length es
     → let others = deleteAt i (deleteAt j es) in
     sum vs (deleteAt j (set es i m)) [] ≡ m .sound * sum vs others (m .joins ∷ []) + m .broken * sum vs others []
-joined-law vs es i j m h k = ?
+joined-law vs es i j m h k =
+    let l : i < length (deleteAt j es) = omega (arith, length-delete es k) in
+    rw (delete-set es i j m h)
+    (rw (getD-set-same (deleteAt j es) i m m l, set-delete (deleteAt j es) i m) at (front vs (set (deleteAt j es) i m) [] i m (rw length-set l)))
+
+-- ---- contraction
+
+rename-gone : (keep gone : ℕ) → rename keep gone gone ≡ keep
+rename-gone keep gone = rw (eq-eqb gone gone refl)
+
+rename-other : (keep gone : ℕ) {v : ℕ} → (v ≡ gone → ⊥) → rename keep gone v ≡ v
+rename-other keep gone {v} n = rw (ne-eqb v gone n)
+
+-- where both have one colour, a node keeps its own
+rename-colour : (χ : ℕ → ℕ) {keep gone : ℕ} → χ keep ≡ χ gone → (v : ℕ) → χ (rename keep gone v) ≡ χ v
+rename-colour χ {keep} {gone} h v = go (eqb v gone) refl
+  where
+    go : (b : Bool) → eqb v gone ≡ b → χ (cond b keep v) ≡ χ v
+    go true e = h ∙ ap χ (sym (eqb-true v gone e))
+    go false e = refl
+
+moved-off : (keep gone : ℕ) (es : List Weighted) → AllOff gone es → map (moved keep gone) es ≡ es
+moved-off keep gone [] off = refl
+moved-off keep gone (e ∷ es) off =
+    let o = off e (List·Memᴰ·head refl) in
+    rw (rename-other keep gone (o .0), rename-other keep gone (o .1), moved-off keep gone es (λ f m. off f (List·Memᴰ·tail m)))
+
+module _ (vs : List ℕ) (keep gone : ℕ) (differ : keep ≡ gone → ⊥) (ink : List·Memᴰ keep vs) where
+  -- s is t with gone renamed to keep: the colourings of s are those of t, and t gives keep and gone one colour
+  abbrev Contracts : List Ends → List Ends → Type 0
+  Contracts t s = (χ : ℕ → ℕ) → (Const χ s → Const (λ v. χ (rename keep gone v)) t) × (Const χ t → (χ keep ≡ χ gone) × Const χ s)
+
+  kept : (v : ℕ) → List·Memᴰ v vs → List·Memᴰ (rename keep gone v) (without gone vs)
+  kept v m = go (eqb v gone) refl
+    where
+      go : (b : Bool) → eqb v gone ≡ b → List·Memᴰ (cond b keep v) (without gone vs)
+      go true e = without-mem gone keep vs ink differ
+      go false e = without-mem gone v vs m (eqb-false v gone e)
+
+  contracted-connected : (t s : List Ends) → Contracts t s → connected vs t ≡ connected (without gone vs) s
+  contracted-connected t s k = connected-eq vs (without gone vs) t s out into
+    where
+      out : Conn vs t → Conn (without gone vs) s
+      out c χ h p q mp mq =
+          let pv = mem-without gone p vs mp in
+          let qv = mem-without gone q vs mq in
+          ap χ (sym (rename-other keep gone (pv .1))) ∙ c (λ v. χ (rename keep gone v)) (k χ .0 h) p q (pv .0) (qv .0) ∙ ap χ (rename-other keep gone (qv .1))
+
+      into : Conn (without gone vs) s → Conn vs t
+      into c χ h p q mp mq =
+          let r = k χ .1 h in
+          sym (rename-colour χ (r .0) p) ∙ c χ (r .1) (rename keep gone p) (rename keep gone q) (kept p mp) (kept q mq) ∙ rename-colour χ (r .0) q
+
+  contracted : (es : List Weighted) (t s : List Ends) → Contracts t s → sum vs es t ≡ sum (without gone vs) (map (moved keep gone) es) s
+  unfolding sum
+  contracted [] t s k = ap (λ b. cond b 1 0) (contracted-connected t s k)
+  contracted (e ∷ es) t s k =
+      ap₂ (λ p q. e .sound * p + e .broken * q) (contracted es (e .joins ∷ t) (moved keep gone e .joins ∷ s) with-e) (contracted es t s k)
+    where
+      with-e : Contracts (e .joins ∷ t) (moved keep gone e .joins ∷ s)
+      with-e χ = (
+        λ c. (c .0, k χ .0 (c .1)),
+        λ c. let r = k χ .1 (c .1) in (r .0, (rename-colour χ (r .0) (e .joins .a) ∙ c .0 ∙ sym (rename-colour χ (r .0) (e .joins .b)), r .1)),
+      )
+
+  -- a link between the two is contracted to nothing
+  contracts : (e : Ends) → Joins e gone keep → Contracts (e ∷ []) []
+  contracts e j χ = (
+    λ c. (joins-colour e gone keep j (λ v. χ (rename keep gone v)) .1 (ap χ (rename-gone keep gone ∙ sym (rename-other keep gone differ))), tt),
+    λ c. (sym (joins-colour e gone keep j χ .0 (c .0)), tt),
+  )
+
+  -- links that do not touch gone stay as they are
+  shrunk : (es : List Weighted) → AllOff gone es → (t s : List Ends) → Contracts t s → sum vs es t ≡ sum (without gone vs) es s
+  shrunk es off t s k = contracted es t s k ∙ ap (λ l. sum (without gone vs) l s) (moved-off keep gone es off)
+
+  pendant : (es : List Weighted) → AllOff gone es → (e : Ends) → Joins e gone keep → sum vs es (e ∷ []) ≡ sum (without gone vs) es []
+  pendant es off e j = shrunk es off (e ∷ []) [] (contracts e j)
+
+-- a node that no link touches, with another beside it: nothing connects
+lone : (vs : List ℕ) (es : List Weighted) (v w : ℕ) → (w ≡ v → ⊥) → List·Memᴰ v vs → List·Memᴰ w vs → AllOff v es → sum vs es [] ≡ 0
+lone vs es v w differ inv inw off = none-connects vs es (go (connected vs (map (λ e. e .joins) es)) refl)
+  where
+    χ : ℕ → ℕ
+    χ u = cond (eqb u v) 1 0
+
+    dark : (u : ℕ) → (u ≡ v → ⊥) → χ u ≡ 0
+    dark u n = rw (ne-eqb u v n)
+
+    same : (fs : List Weighted) → AllOff v fs → Const χ (map (λ e. e .joins) fs)
+    same [] o = tt
+    same (f ∷ fs) o = let p = o f (List·Memᴰ·head refl) in (dark (f .joins .a) (p .0) ∙ sym (dark (f .joins .b) (p .1)), same fs (λ g m. o g (List·Memᴰ·tail m)))
+
+    go : (b : Bool) → connected vs (map (λ e. e .joins) es) ≡ b → connected vs (map (λ e. e .joins) es) ≡ false
+    go false e = e
+    go true e = let h = connected-sound vs _ e χ (same es off) w v inw inv in absurd (omega (arith, dark w differ, h, one))
+      where
+        one : χ v ≡ 1
+        one = rw (eq-eqb v v refl)
 
 module _ (vs : List ℕ) (es : List Weighted) (z : Weighted) (v w : ℕ) (differ : w ≡ v → ⊥) (inv : List·Memᴰ v vs) (inw : List·Memᴰ w vs) where
   -- step 5: an end multiplies
   pub end-law : (i : ℕ) → i < length es → Joins (getD es i z .joins) v w → AllOff v (deleteAt i es)
       → sum vs es [] ≡ getD es i z .sound * sum (without v vs) (deleteAt i es) []
-  end-law i h j off = ?
+  end-law i h j off =
+      front vs es [] i z h
+      ∙ rw (pendant vs w v differ inw (deleteAt i es) off (getD es i z .joins) j, lone vs (deleteAt i es) v w differ inv inw off)
+      (simp (mul-zero, add-zero))
 
   -- step 6: two links in series are one, which is broken where one of them alone is
   pub series-law : (u : ℕ) → (u ≡ v → ⊥) → List·Memᴰ u vs → (i j : ℕ) → i < j → j < length es
       → Joins (getD es i z .joins) v w → Joins (getD es j z .joins) v u → AllOff v (deleteAt i (deleteAt j es))
       → let e = getD es i z in let f = getD es j z in let others = deleteAt i (deleteAt j es) in
       sum vs es [] ≡ e .sound * f .sound * sum (without v vs) others (record { a = w; b = u } ∷ []) + (e .sound * f .broken + e .broken * f .sound) * sum (without v vs) others []
-  series-law u ud inu i j h k p q off = ?
+  series-law u ud inu i j h k p q off =
+      front-two vs es i j z h k
+      ∙ rw (
+        shrunk vs w v differ inw others off (e ∷ f ∷ []) (record { a = w; b = u } ∷ []) both,
+        pendant vs u v ud inu others off f q,
+        pendant vs w v differ inw others off e p,
+        lone vs others v w differ inv inw off,
+      ) (simp (mul-zero, add-zero, ring))
+    where
+      e : Ends
+      e = getD es i z .joins
+
+      f : Ends
+      f = getD es j z .joins
+
+      others : List Weighted
+      others = deleteAt i (deleteAt j es)
+
+      both : Contracts vs w v differ inw (e ∷ f ∷ []) (record { a = w; b = u } ∷ [])
+      both χ = let k = contracts vs w v differ inw e p χ in (
+        λ c. (k .0 tt .0, (joins-colour f v u q (λ n. χ (rename w v n)) .1 (ap χ (rename-gone w v) ∙ c .0 ∙ ap χ (sym (rename-other w v ud))), tt)),
+        λ c. let wv = k .1 (c .0, tt) .0 in (wv, (wv ∙ joins-colour f v u q χ .0 (c .1 .0), tt)),
+      )
 
 -- step 7: the sets that hold a link are those of the contracted network
 pub split-law : (vs : List ℕ) (es : List Weighted) (i : ℕ) (z : Weighted) → i < length es
     → (keep gone : ℕ) → (keep ≡ gone → ⊥) → List·Memᴰ keep vs → Joins (getD es i z .joins) gone keep
     → sum vs es [] ≡ getD es i z .sound * sum (without gone vs) (map (moved keep gone) (deleteAt i es)) [] + getD es i z .broken * sum vs (deleteAt i es) []
-split-law vs es i z h keep gone differ ink j = ?
+split-law vs es i z h keep gone differ ink j =
+    let e = getD es i z .joins in
+    front vs es [] i z h ∙ rw (contracted vs keep gone differ ink (deleteAt i es) (e ∷ []) [] (contracts vs keep gone differ ink e j))
 
 -- the same links with other weights: each sound weight is the larger share of its total on the right
 abbrev pub Raised : Weighted → Weighted → Type 0
@@ -88,6 +298,20 @@ pub data AllRaised : List Weighted → List Weighted → Type 0 where
   nil : AllRaised [] []
   cons : {e f : Weighted} {es fs : List Weighted} → Raised e f → AllRaised es fs → AllRaised (e ∷ es) (f ∷ fs)
 
+larger-share : (x y x′ y′ : ℕ) {a b : ℕ} → x * (x′ + y′) ≤ x′ * (x + y) → b ≤ a → (x * a + y * b) * (x′ + y′) ≤ (x′ * a + y′ * b) * (x + y)
+larger-share x y x′ y′ {a} {b} h k =
+    let rest : y * (x′ + y′) * b + x * (x′ + y′) * b ≡ x′ * (x + y) * b + y′ * (x + y) * b = simp ring in
+    let left : (x * a + y * b) * (x′ + y′) ≡ x * (x′ + y′) * a + y * (x′ + y′) * b = simp ring in
+    let right : (x′ * a + y′ * b) * (x + y) ≡ x′ * (x + y) * a + y′ * (x + y) * b = simp ring in
+    omega (arith, rearranged h k)
+
 -- raising a value raises the sum
 pub raised : (vs : List ℕ) (es fs : List Weighted) (t : List Ends) → AllRaised es fs → sum vs es t * total fs ≤ sum vs fs t * total es
-raised vs es fs t r = ?
+unfolding sum total
+raised vs es fs t nil = le-refl _
+raised vs es fs t (cons {e} {f} {es = es′} {fs = fs′} r rs) =
+    let a = raised vs es′ fs′ (e .joins ∷ t) rs in
+    let b = raised vs es′ fs′ t rs in
+    let first = mul-le-mul-right (total fs′) (larger-share (e .sound) (e .broken) (f .sound) (f .broken) (r .1) (sum-more vs es′ (e .joins) t)) in
+    let then = mul-le-mul-left (e .sound + e .broken) (add-le-add (mul-le-mul-left (f .sound) a) (mul-le-mul-left (f .broken) b)) in
+    rw (← r .0) (simp ring (le-trans (simp ring at first) (simp ring at then)))

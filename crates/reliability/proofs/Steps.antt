@@ -1,18 +1,28 @@
 -- What is known where a step fits, and that what it leaves is a valid network with one link less.
-use Prim.Native.Nat.{ℕ, zero, suc, _+_, _-_, _≤_, _<_}
-use mathlib.Core.Path.{_≡_, refl, sym, ap, _∙_, subst}
-use mathlib.Core.List.{List, [], _∷_, _++_, map, List·Memᴰ}
-use mathlib.Core.Bool.{Bool, true, false, cond}
-use mathlib.Core.Option.{Option, some, none}
-use lib.ListN.{length, getD, set}
+use Prim.Native.Nat.{ℕ, suc, _≤_, _<_, zero-le, suc-le-suc}
+use mathlib.Core.Path.{_≡_, refl, sym, _∙_, subst}
+use mathlib.Core.List.{List, [], _∷_, map, List·Memᴰ, List·Memᴰ·head}
+use mathlib.Core.Bool.{Bool, true, false, cond, not, _&&_, _||_, true≢false, and-eq-true-iff}
+use mathlib.Core.Logic.{_⊎_, inl, inr, ⊎-map, ⊎-elim}
+use mathlib.Core.Option.{Option, some, none, Option·map}
+use native.Mathlib.Nat.{not-suc-le-zero, le-refl}
+use native.Mathlib.Omega.{arith}
+use lib.Dec.{eqb, leb}
+use lib.ListN.{length, set, length-set, length-map}
+use lib.Seq.{lt-length-set}
+use borrow.Author.Tests.{eqb-true, eqb-false, leb-true, leb-false}
 use Rattle.rounding.specs.Rounding.{S}
 use Rattle.rounding.specs.declared.Direction.{Direction}
+use Rattle.rounding.proofs.Operations.{factor-range}
 use Rattle.reliability.specs.declared.Link.{Link}
 use Rattle.reliability.specs.declared.Step.{Step}
 use Rattle.reliability.specs.declared.Step.the-variants.{OneNode, Disconnected, Loop, Parallel, End, Series, Split}
-use Rattle.reliability.specs.Networks.{Network, Valid, Ends, ends, value, linkAt, connected}
-use Rattle.reliability.specs.Rule.{across, deleteAt, next, leaves, Remainder, settled, rest, scaled, branches}
+use Rattle.reliability.specs.Networks.{Network, Ascending, Proper, Valid, ends, value, linkAt, label, every, connected}
+use Rattle.reliability.specs.Rule.{isLoop, touches, alike, firstAt, firstPair, lowest, endOf, seriesOf, chosen, when, _otherwise_, next, deleteAt, deleted, removed, joined, across, inSeries, leaves, Remainder, settled, rest, scaled, branches}
+use Rattle.reliability.proofs.Lists.{length-delete, getD-mem}
+use Rattle.reliability.proofs.Searches.{Answers, Holds, Fails, first-at, Placed, Pair, first-pair, lowest-of}
 use Rattle.reliability.proofs.States.{Joins, Off}
+use Rattle.reliability.proofs.Validity.{proper-at, deleted-valid, joined-valid, removed-valid, contracted-valid, parallel-proper, series-proper, mem-joined}
 
 -- e joins v to another node
 pub record Leg (v : ℕ) (e : Link) : Type 0 where
@@ -59,8 +69,106 @@ Fits g (End v i) = AtEnd g v i
 Fits g (Series v i j) = AtSeries g v i j
 Fits g (Split i) = AtSplit g i
 
+-- ---- what a test says
+
+or-true : (s t : Bool) → s || t ≡ true → (s ≡ true) ⊎ (t ≡ true)
+or-true true t h = inl h
+or-true false t h = inr h
+
+or-false : (s t : Bool) → s || t ≡ false → (s ≡ false) × (t ≡ false)
+or-false true t h = absurd (true≢false h)
+or-false false t h = (refl, h)
+
+both : (a b c d : ℕ) → eqb a b && eqb c d ≡ true → (a ≡ b) × (c ≡ d)
+both a b c d h =
+    let k = and-eq-true-iff (eqb a b) (eqb c d) .0 h in
+    (eqb-true a b (k .0), eqb-true c d (k .1))
+
+pub alike-joins : (e f : Link) → alike e f ≡ true → Joins (ends f) (e .a) (e .b)
+alike-joins e f h =
+    ⊎-map (λ k. let q = both (e .a) (f .a) (e .b) (f .b) k in (sym (q .0), sym (q .1))) (λ k. let q = both (e .a) (f .b) (e .b) (f .a) k in (sym (q .1), sym (q .0)))
+    (or-true (eqb (e .a) (f .a) && eqb (e .b) (f .b)) (eqb (e .a) (f .b) && eqb (e .b) (f .a)) h)
+
+pub touches-leg : (v : ℕ) (e : Link) → touches v e ≡ true → isLoop e ≡ false → Leg v e
+touches-leg v e h l = let k = go (eqb (e .a) v) refl h in record { joins = k .0; differ = k .1 }
+  where
+    go : (t : Bool) → eqb (e .a) v ≡ t → t || eqb (e .b) v ≡ true → let w = cond t (e .b) (e .a) in Joins (ends e) v w × (w ≡ v → ⊥)
+    go true q h = (inl (eqb-true (e .a) v q, refl), λ r. eqb-false (e .a) (e .b) l (eqb-true (e .a) v q ∙ sym r))
+    go false q h = (inr (refl, eqb-true (e .b) v h), eqb-false (e .a) v q)
+
+pub misses-off : (v : ℕ) (e : Link) → touches v e ≡ false → Off v (ends e)
+misses-off v e h =
+    let k = or-false (eqb (e .a) v) (eqb (e .b) v) h in
+    (eqb-false (e .a) v (k .0), eqb-false (e .b) v (k .1))
+
+-- two nodes are connected by some link
+some-link : (vs : List ℕ) (es : List Link) → Ascending vs → connected vs (map ends es) ≡ true → 1 < length vs → 0 < length es
+unfolding Ascending connected label every
+some-link vs (e ∷ es) a c h = suc-le-suc zero-le
+some-link [] [] a c h = absurd (not-suc-le-zero h)
+some-link (v ∷ []) [] a c h = absurd (omega arith)
+some-link (v ∷ (u ∷ vs)) [] a c h =
+    let same = and-eq-true-iff (eqb u v) (every (λ w. eqb w v) vs) .0 c .0 in
+    absurd (omega (arith, a .0 u (List·Memᴰ·head refl), eqb-true u v same))
+
+-- ---- which step fits
+
+abbrev FitsIf : Network → Option Step → Type 0
+FitsIf g o = Answers (Fits g) (Unit {0}) o
+
+module _ (g : Network) (valid : Valid g) (no-loop : Fails isLoop (g .links)) where
+  leg : (v i : ℕ) → Holds (touches v) (g .links) i → Leg v (linkAt g i)
+  leg v i h = touches-leg v (linkAt g i) (h .test) (no-loop (linkAt g i) (getD-mem (g .links) _ (h .place)))
+
+  end-fits : (v : ℕ) → List·Memᴰ v (g .nodes) → (is : List ℕ) → Placed (touches v) (g .links) is → FitsIf g (endOf v is)
+  end-fits v n [] h = tt
+  end-fits v n (i ∷ []) h =
+      record { node = n; place = h .0 .place; leg = leg v i (h .0); others = λ e m. misses-off v e (h .1 e m) }
+  end-fits v n (i ∷ (j ∷ r)) h = tt
+
+  series-fits : (v : ℕ) → List·Memᴰ v (g .nodes) → (is : List ℕ) → Placed (touches v) (g .links) is → FitsIf g (seriesOf v is)
+  series-fits v n [] h = tt
+  series-fits v n (i ∷ []) h = tt
+  series-fits v n (i ∷ (j ∷ [])) h =
+      record { node = n; order = h .0; place = h .2 .place; first = leg v i (h .1); second = leg v j (h .2); others = λ e m. misses-off v e (h .3 e m) }
+  series-fits v n (i ∷ (j ∷ (k ∷ r))) h = tt
+
+  split-fits : leb (length (g .nodes)) 1 ≡ false → connected (g .nodes) (map ends (g .links)) ≡ true → AtSplit g (chosen g)
+  split-fits h k =
+      let place = some-link (g .nodes) (g .links) (valid .ascending) k (leb-false (length (g .nodes)) 1 h) in
+      let e = linkAt g (chosen g) in
+      record { place = place; differ = eqb-false (e .a) (e .b) (no-loop e (getD-mem (g .links) _ place)) }
+
+-- by the answer of each test in turn
+fits-by : (g : Network) → Valid g
+    → (loop : Option ℕ) → Answers (Holds isLoop (g .links)) (Fails isLoop (g .links)) loop
+    → (one : Bool) → leb (length (g .nodes)) 1 ≡ one
+    → (whole : Bool) → connected (g .nodes) (map ends (g .links)) ≡ whole
+    → (pair : Option (ℕ × ℕ)) → Answers (Pair (g .links)) (Unit {0}) pair
+    → (end : Option Step) → (Fails isLoop (g .links) → FitsIf g end)
+    → (series : Option Step) → (Fails isLoop (g .links) → FitsIf g series)
+    → Fits g (Option·map Loop loop otherwise when one OneNode otherwise when (not whole) Disconnected
+    otherwise Option·map (λ ij. Parallel (ij .0) (ij .1)) pair otherwise end otherwise series otherwise Split (chosen g))
+fits-by g valid (some i) l one o whole w pair p end e series s =
+    record { place = l .place; same = eqb-true (linkAt g i .a) (linkAt g i .b) (l .test) }
+fits-by g valid none l true o whole w pair p end e series s = leb-true (length (g .nodes)) 1 o
+fits-by g valid none l false o false w pair p end e series s = w
+fits-by g valid none l false o true w (some ij) p end e series s =
+    record { order = p .order; place = p .place; alike = alike-joins (linkAt g (ij .0)) (linkAt g (ij .1)) (p .test) }
+fits-by g valid none l false o true w none p (some t) e series s = e l
+fits-by g valid none l false o true w none p none e (some t) s = s l
+fits-by g valid none l false o true w none p none e none s = split-fits g valid l o w
+
 pub fits : (g : Network) → Valid g → Fits g (next g)
-fits g valid = ?
+unfolding next
+fits g valid =
+    let es = g .links in
+    let vs = g .nodes in
+    fits-by g valid (firstAt isLoop es) (first-at isLoop es) (leb (length vs) 1) refl (connected vs (map ends es)) refl (firstPair es) (first-pair es)
+    (lowest endOf es vs) (λ l. lowest-of (Fits g) endOf es vs (end-fits g valid l))
+    (lowest seriesOf es vs) (λ l. lowest-of (Fits g) seriesOf es vs (series-fits g valid l))
+
+-- ---- what a step leaves
 
 -- a valid network of m links
 pub record Sized (m : ℕ) (g : Network) : Type 0 where
@@ -74,9 +182,59 @@ Left m (rest g) = Sized m g
 Left m (scaled k g) = Sized m g × ((d : Direction) → k d ≤ S)
 Left m (branches e sound broken) = Sized m sound × Sized m broken × ((d : Direction) → value d e ≤ S)
 
+module _ (m : ℕ) (g : Network) (h : Sized (suc m) g) where
+  proper : {i : ℕ} → i < length (g .links) → Proper (g .nodes) (linkAt g i)
+  proper {i} = proper-at g (h .valid) i
+
+  deleted-sized : {i : ℕ} → i < length (g .links) → Sized m (deleted i g)
+  deleted-sized {i} k = record { valid = deleted-valid g (h .valid) i; size = omega (arith, length-delete (g .links) k) }
+
+  joined-sized : {i j : ℕ} (e : Link) → i < j → j < length (g .links) → Proper (g .nodes) e → Sized m (joined i j e g)
+  joined-sized {i} {j} e o k p = record {
+    valid = joined-valid g (h .valid) i j e o p;
+    size = omega (arith, length-delete (set (g .links) i e) (lt-length-set (g .links) i e k), length-set (g .links) i e);
+  }
+
+  removed-sized : (v : ℕ) (f : Network) → Sized m f → Clear v (f .links) → Sized m (removed v f)
+  removed-sized v f k off = record { valid = removed-valid f (k .valid) v off; size = k .size }
+
+  left-by : (s : Step) → Fits g s → Left m (leaves g s)
+  unfolding leaves
+  left-by OneNode k = le-refl S
+  left-by Disconnected k = zero-le
+  left-by (Loop i) k = deleted-sized (k .place)
+  left-by (Parallel i j) k =
+      joined-sized _ (k .order) (k .place) (parallel-proper (g .nodes) (linkAt g i) (linkAt g j) (proper (omega arith)) (proper (k .place)))
+  left-by (End v i) k = (removed-sized v (deleted i g) (deleted-sized (k .place)) (k .others), proper (k .place) .range)
+  left-by (Series v i j) k =
+      let e = linkAt g i in
+      let f = linkAt g j in
+      let p : Proper (g .nodes) e = proper (omega arith) in
+      let q = proper (k .place) in
+      let new = inSeries v e f in
+      let off : Clear v (joined i j new g .links) =
+      λ x n. ⊎-elim (λ (r : x ≡ new). subst (λ (y : Link). Off v (ends y)) (sym r) (k .first .differ, k .second .differ)) (k .others x) (mem-joined (g .links) i j (k .order) n) in (
+        removed-sized v (joined i j new g) (joined-sized new (k .order) (k .place) (series-proper (g .nodes) e f p q v)) off,
+        λ d. factor-range d (value d e) (value d f) (p .range d) (q .range d),
+      )
+  left-by (Split i) k =
+      let p = proper (k .place) in
+      let broken = deleted-sized (k .place) in
+      (record { valid = contracted-valid (deleted i g) (broken .valid) (linkAt g i) p (k .differ); size = simp length-map (broken .size) }, broken, p .range)
+
 pub left : (m : ℕ) (g : Network) → Sized (suc m) g → Left m (leaves g (next g))
-left m g h = ?
+left m g h = left-by m g h (next g) (fits g (h .valid))
+
+settled-by : (g : Network) → length (g .links) ≡ 0 → (s : Step) → Fits g s → (k : ℕ) × (k ≤ S) × (leaves g s ≡ settled k)
+unfolding leaves
+settled-by g h OneNode f = (S, le-refl S, refl)
+settled-by g h Disconnected f = (0, zero-le, refl)
+settled-by g h (Loop i) f = absurd (omega arith)
+settled-by g h (Parallel i j) f = absurd (omega arith)
+settled-by g h (End v i) f = absurd (omega arith)
+settled-by g h (Series v i j) f = absurd (omega arith)
+settled-by g h (Split i) f = absurd (omega arith)
 
 -- a network with no link is settled
 pub none-left : (g : Network) → Sized 0 g → (k : ℕ) × (k ≤ S) × (leaves g (next g) ≡ settled k)
-none-left g h = ?
+none-left g h = settled-by g (h .size) (next g) (fits g (h .valid))

@@ -71,3 +71,9 @@ every p (x ∷ xs) = p x && every p xs
 unfoldable pub connected : List ℕ → List Ends → Bool
 connected [] t = true
 connected (v ∷ vs) t = let f = label t in every (λ u. eqb (f u) (f v)) vs
+
+-- a path of links of t from one node to another: here, or along a link of t, either way, and on from there
+pub data Path (t : List Ends) : ℕ → ℕ → Type 0 where
+  here : {v : ℕ} → Path t v v
+  forth : {e : Ends} {v : ℕ} → List·Memᴰ e t → Path t (e .b) v → Path t (e .a) v
+  back : {e : Ends} {v : ℕ} → List·Memᴰ e t → Path t (e .a) v → Path t (e .b) v

@@ -1,0 +1,130 @@
+-- What `connected` means: by paths, and by colourings.
+use Prim.Native.Nat.{ℕ, _≤_, min, max}
+use mathlib.Core.Path.{_≡_, refl, sym, ap, _∙_}
+use mathlib.Core.List.{List, [], _∷_, List·Memᴰ, List·Memᴰ·head, List·Memᴰ·tail, List·Memᴰ·not-nil}
+use mathlib.Core.Bool.{Bool, true, false, cond}
+use mathlib.Core.Logic.{_↔_}
+use lib.Dec.{eqb}
+use borrow.Author.Tests.{eqb-true, eqb-false, eq-eqb}
+use native.Mathlib.Decide.{decLe}
+use native.Mathlib.Omega.{arith}
+use Rattle.reliability.specs.Networks.{Ends, merge, label, connected, Path, here, forth, back}
+use Rattle.reliability.proofs.Lists.{every-at, every-of}
+
+-- ---- paths
+
+module _ {t : List Ends} where
+  pub join : {u v w : ℕ} → Path t u v → Path t v w → Path t u w
+  join here q = q
+  join (forth m p) q = forth m (join p q)
+  join (back m p) q = back m (join p q)
+
+  pub turn : {u v : ℕ} → Path t u v → Path t v u
+  turn here = here
+  turn (forth m p) = join (turn p) (back m here)
+  turn (back m p) = join (turn p) (forth m here)
+
+  more : {u v : ℕ} (e : Ends) → Path t u v → Path (e ∷ t) u v
+  more e here = here
+  more e (forth m p) = forth (List·Memᴰ·tail m) (more e p)
+  more e (back m p) = back (List·Memᴰ·tail m) (more e p)
+
+  to-merged : (x y z : ℕ) → Path t x y → Path t z (merge x y z)
+  unfolding merge
+  to-merged x y z p = go (eqb z (max x y)) refl (decLe x y)
+    where
+      go : (b : Bool) → eqb z (max x y) ≡ b → Dec (x ≤ y) → Path t z (cond b (min x y) z)
+      go true e (yes h) =
+          let zy : z ≡ y = omega (arith, eqb-true z (max x y) e) in
+          let mx : min x y ≡ x = omega arith in
+          rw (zy, mx) (turn p)
+      go true e (no h) =
+          let zx : z ≡ x = omega (arith, eqb-true z (max x y) e) in
+          let my : min x y ≡ y = omega arith in
+          rw (zx, my) p
+      go false e d = here
+
+-- a path leads from each node to its label
+pub to-label : (t : List Ends) (v : ℕ) → Path t v (label t v)
+unfolding label
+to-label [] v = here
+to-label (e ∷ t) v =
+    let ends = join (turn (more e (to-label t (e .a)))) (forth (List·Memᴰ·head refl) (more e (to-label t (e .b)))) in
+    join (more e (to-label t v)) (to-merged _ _ (label t v) ends)
+
+-- ---- colourings
+
+-- no link of t joins two colours
+abbrev pub Const : (ℕ → ℕ) → List Ends → Type 0
+Const χ [] = Unit {0}
+Const χ (e ∷ t) = (χ (e .a) ≡ χ (e .b)) × Const χ t
+
+const-at : (χ : ℕ → ℕ) (t : List Ends) {e : Ends} → Const χ t → List·Memᴰ e t → χ (e .a) ≡ χ (e .b)
+const-at χ (f ∷ t) c (List·Memᴰ·head p) = ap (λ (e : Ends). χ (e .a)) p ∙ c .0 ∙ ap (λ (e : Ends). χ (e .b)) (sym p)
+const-at χ (f ∷ t) c (List·Memᴰ·tail m) = const-at χ t (c .1) m
+
+-- one colour along a path
+along : (χ : ℕ → ℕ) (t : List Ends) {u v : ℕ} → Const χ t → Path t u v → χ u ≡ χ v
+along χ t c here = refl
+along χ t c (forth m p) = const-at χ t c m ∙ along χ t c p
+along χ t c (back m p) = sym (const-at χ t c m) ∙ along χ t c p
+
+const-map : (f χ : ℕ → ℕ) (t : List Ends) → Const χ t → Const (λ v. f (χ v)) t
+const-map f χ [] c = tt
+const-map f χ (e ∷ t) c = (ap f (c .0), const-map f χ t (c .1))
+
+merged : (x y z : ℕ) → ((z ≡ max x y → ⊥) → z ≡ min x y) → merge x y z ≡ min x y
+unfolding merge
+merged x y z h = go (eqb z (max x y)) refl
+  where
+    go : (b : Bool) → eqb z (max x y) ≡ b → cond b (min x y) z ≡ min x y
+    go true e = refl
+    go false e = h (eqb-false z (max x y) e)
+
+-- the labels are such a colouring
+label-const : (t : List Ends) → Const (label t) t
+unfolding label
+label-const [] = tt
+label-const (e ∷ t) =
+    let x = label t (e .a) in
+    let y = label t (e .b) in
+    (merged x y x (λ n. omega arith) ∙ sym (merged x y y (λ n. omega arith)), const-map (merge x y) (label t) t (label-const t))
+
+-- ---- connected
+
+-- every colouring by which no link of t joins two colours gives the nodes vs one colour
+abbrev pub Conn : List ℕ → List Ends → Type 0
+Conn vs t = (χ : ℕ → ℕ) → Const χ t → (u v : ℕ) → List·Memᴰ u vs → List·Memᴰ v vs → χ u ≡ χ v
+
+one-label : (vs : List ℕ) (t : List Ends) → connected vs t ≡ true → (u v : ℕ) → List·Memᴰ u vs → List·Memᴰ v vs → label t u ≡ label t v
+unfolding connected
+one-label (w ∷ vs) t h u v m n = first u m ∙ sym (first v n)
+  where
+    first : (u : ℕ) → List·Memᴰ u (w ∷ vs) → label t u ≡ label t w
+    first u (List·Memᴰ·head p) = ap (label t) p
+    first u (List·Memᴰ·tail m) = eqb-true _ _ (every-at (λ u. eqb (label t u) (label t w)) h m)
+
+pub connected-complete : (vs : List ℕ) (t : List Ends) → Conn vs t → connected vs t ≡ true
+unfolding connected
+connected-complete [] t h = refl
+connected-complete (w ∷ vs) t h =
+    every-of _ vs (λ u m. eq-eqb _ _ (h (label t) (label-const t) u w (List·Memᴰ·tail m) (List·Memᴰ·head refl)))
+
+-- the links t connect the nodes vs: a path of them leads from each to each
+pub connected-means : (vs : List ℕ) (t : List Ends) → (connected vs t ≡ true) ↔ ((u v : ℕ) → List·Memᴰ u vs → List·Memᴰ v vs → Path t u v)
+connected-means vs t = (
+  λ h u v m n. join (to-label t u) (rw (one-label vs t h u v m n) (turn (to-label t v))),
+  λ paths. connected-complete vs t (λ χ c u v m n. along χ t c (paths u v m n)),
+)
+
+pub connected-sound : (vs : List ℕ) (t : List Ends) → connected vs t ≡ true → Conn vs t
+connected-sound vs t h χ c u v m n = along χ t c (connected-means vs t .0 h u v m n)
+
+bool-eq : (p q : Bool) → (p ≡ true → q ≡ true) → (q ≡ true → p ≡ true) → p ≡ q
+bool-eq true q f g = sym (f refl)
+bool-eq false true f g = g refl
+bool-eq false false f g = refl
+
+pub connected-eq : (vs ws : List ℕ) (t s : List Ends) → (Conn vs t → Conn ws s) → (Conn ws s → Conn vs t) → connected vs t ≡ connected ws s
+connected-eq vs ws t s f g =
+    bool-eq _ _ (λ h. connected-complete ws s (f (connected-sound vs t h))) (λ h. connected-complete vs t (g (connected-sound ws s h)))
