@@ -2,7 +2,7 @@
 use Prim.Native.Nat.{ℕ, zero, suc, _+_, _-_, _*_, _^_, _≤_, _<_, max, zero-le, suc-le-suc}
 use mathlib.Core.Path.{_≡_, refl, sym, ap, ap₂, _∙_, subst}
 use mathlib.Core.List.{List, [], _∷_, map, List·Memᴰ, List·Memᴰ·head, List·Memᴰ·tail}
-use mathlib.Core.Bool.{Bool, true, false, _&&_, false≢true}
+use mathlib.Core.Bool.{Bool, true, false, _&&_, false≢true, and-eq-true-iff}
 use native.Mathlib.Nat.{zero-mul, add-mul, mul-add, mul-assoc, mul-comm, mul-left-comm, add-assoc, add-comm, add-left-comm, add-le-add, mul-le-mul, mul-le-mul-left, mul-le-mul-right, le-refl, le-suc, le-trans, le-of-eq, pow-succ'}
 use native.Mathlib.Omega.{arith}
 use lib.Dec.{eqb}
@@ -22,12 +22,9 @@ use Rattle.reliability.specs.Exact.{weighted, exact}
 use Rattle.reliability.specs.Rule.{bounded, side, unfinished, blend, next, leaves, Remainder, settled, rest, scaled, branches, worked, figureOf, without}
 use Rattle.reliability.proofs.States.{sum-total}
 use Rattle.reliability.proofs.Steps.{Fits, fits, Sized, Left, left, none-left}
+use Rattle.reliability.proofs.Counts.{side-bounded}
 use Rattle.reliability.proofs.Within.{Within, equal, rounded, weaken, trans, plus, by, same}
 use Rattle.reliability.proofs.Reductions.{Reduces, reduces, total-is}
-
-pub side-bounded : (d : Direction) (b : Direction → ℕ) (steps : ℕ) (finished : Bool) → side d (bounded b steps finished) ≡ b d
-side-bounded Down b steps finished = refl
-side-bounded Up b steps finished = refl
 
 -- what the error budget counts: links and twice the nodes
 abbrev pub budget : ℕ → Network → ℕ
@@ -95,14 +92,6 @@ fewer g (End v i) h = without-less v (g .nodes) (h .node)
 fewer g (Series v i j) h = without-less v (g .nodes) (h .node)
 fewer g (Split i) h = (without-length (max (linkAt g i .a) (linkAt g i .b)) (g .nodes), le-refl (length (g .nodes)))
 
-and-left : (p q : Bool) → (p && q) ≡ true → p ≡ true
-and-left true q h = refl
-and-left false q h = h
-
-and-right : (p q : Bool) → (p && q) ≡ true → q ≡ true
-and-right true q h = h
-and-right false q h = absurd (false≢true h)
-
 at-settled : (d : Direction) (m : ℕ) (g : Network) (k : ℕ) → length (g .links) ≡ m → Reduces d g (settled k) → Encloses d m true (side d (bounded (λ c. k) 0 true)) g
 at-settled d m g k size e =
     weaken d true zero-le (λ t. t) (equal d true (ap₂ (λ x n. x * S ^ n) (side-bounded d (λ c. k) 0 true) (sym size) ∙ e))
@@ -161,8 +150,8 @@ module _ (d : Direction) (m : ℕ) (work : Network → ℕ → Figure) (works : 
       let y = side d t in
       let c = m + 2 * length (g .nodes) in
       let first = weaken d done (le-of-eq refl) (λ t. refl) (by d P (rounded d (split-rounds d p x y))) in
-      let soundly = weaken d done (mul-le-mul-left p (mul-le-mul-right P (nodes (n .0)))) (and-left (s .finished) (t .finished)) (by d p (works sound l hs)) in
-      let brokenly = weaken d done (mul-le-mul-left (S - p) (mul-le-mul-right P (nodes (n .1)))) (and-right (s .finished) (t .finished)) (by d (S - p) (works broken (l - s .steps) hb)) in
+      let soundly = weaken d done (mul-le-mul-left p (mul-le-mul-right P (nodes (n .0)))) (λ both. and-eq-true-iff (s .finished) (t .finished) .0 both .0) (by d p (works sound l hs)) in
+      let brokenly = weaken d done (mul-le-mul-left (S - p) (mul-le-mul-right P (nodes (n .1)))) (λ both. and-eq-true-iff (s .finished) (t .finished) .0 both .1) (by d (S - p) (works broken (l - s .steps) hb)) in
       weaken d done
       (le-trans (omega (arith, portions p (c * P) pe, mul-comm P S)) (spend m c (budget (suc m) g) 1 (omega arith))) (λ t. t)
       (same d (reverse P (split d p x y) S ∙ sym (scale m (split d p x y)) ∙ ap (λ y. y * S ^ suc m) (sym (side-bounded d (λ c. split c (value c e) (side c s) (side c t)) (suc (s .steps + t .steps)) done)))

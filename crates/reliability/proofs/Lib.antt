@@ -9,3 +9,4 @@ pub mod Counts
 pub mod Within
 pub mod Reductions
 pub mod Enclosure
+pub mod Theorems

@@ -1,13 +1,12 @@
 -- What each step does to the exact sum, at one direction's values, with its error budget.
 use Prim.Native.Nat.{ℕ, zero, suc, _+_, _-_, _*_, _^_, _≤_, _<_, min, max, zero-le}
 use mathlib.Core.Path.{_≡_, refl, sym, ap, ap₂, _∙_, subst}
-use mathlib.Core.List.{List, [], _∷_, map, map-map, List·Memᴰ, List·Memᴰ·head, List·Memᴰ·tail, Memᴰ·of-map, Memᴰ·cast}
-use mathlib.Core.Bool.{Bool, true, false, cond}
-use mathlib.Core.Logic.{_⊎_, inl, inr}
+use mathlib.Core.List.{List, [], _∷_, map, map-map, List·Memᴰ, List·Memᴰ·head, List·Memᴰ·tail, Memᴰ·of-map}
+use mathlib.Core.Bool.{true}
+use mathlib.Core.Logic.{inl}
 use native.Mathlib.Nat.{mul-assoc, mul-comm, mul-add, add-mul, mul-left-comm, add-assoc, add-comm, add-left-comm, zero-mul, mul-zero, add-zero, add-sub-of-le, pow-suc, pow-succ', mul-le-mul, mul-le-mul-left, mul-le-mul-right, add-le-add, lt-trans, le-trans, le-of-eq}
 use native.Mathlib.Omega.{arith}
-use native.Mathlib.Decide.{decLt, decLe}
-use lib.Dec.{eqb}
+use native.Mathlib.Decide.{decLt}
 use lib.ListN.{length, getD, set, List·getD-map, length-map, length-set}
 use Rattle.rounding.specs.Rounding.{S, parallel, either, series, factor}
 use Rattle.rounding.specs.declared.Direction.{Direction}
@@ -17,11 +16,12 @@ use Rattle.rounding.proofs.Operations.{parallel-rounds, parallel-range, series-
 use Rattle.reliability.specs.declared.Link.{Link}
 use Rattle.reliability.specs.declared.Step.{Step}
 use Rattle.reliability.specs.declared.Step.the-variants.{OneNode, Disconnected, Loop, Parallel, End, Series, Split}
-use Rattle.reliability.specs.Networks.{Network, Valid, Proper, Ends, ends, value, linked, linkAt, connected}
+use Rattle.reliability.specs.Networks.{Network, Valid, Ends, ends, value, linked, linkAt, connected}
 use Rattle.reliability.specs.Exact.{Weighted, weighted, sum, total, exact}
 use Rattle.reliability.specs.Rule.{inParallel, inSeries, across, deleted, removed, joined, contracted, renamed, rename, deleteAt, without, leaves, Remainder, settled, rest, scaled, branches}
-use Rattle.reliability.proofs.Lists.{map-delete, map-set, mem-delete, length-delete, getD-mem}
+use Rattle.reliability.proofs.Lists.{map-delete, map-set, mem-delete, length-delete}
 use Rattle.reliability.proofs.States.{Joins, Off, AllOff, moved, sum-more, sum-total, one-node, none-connects, loop-law, parallel-law, joined-law, end-law, series-law, split-law}
+use Rattle.reliability.proofs.Validity.{proper-at, across-node, larger-smaller, smaller-node}
 use Rattle.reliability.proofs.Steps.{Fits, Clear, AtLoop, AtPair, AtEnd, AtSeries, AtSplit}
 use Rattle.reliability.proofs.Within.{Within, equal, rounded, weaken, trans, by, same, shares}
 
@@ -118,28 +118,6 @@ all-off d v es clear e m =
     let r = Memᴰ·of-map (weighted d) es m in
     subst (λ (f : Weighted). Off v (f .joins)) (r .2) (clear (r .0) (r .1))
 
-across-node : (vs : List ℕ) (v : ℕ) (e : Link) → Proper vs e → List·Memᴰ (across v e) vs
-across-node vs v e h = go (eqb (e .a) v)
-  where
-    go : (t : Bool) → List·Memᴰ (cond t (e .b) (e .a)) vs
-    go true = h .b-node
-    go false = h .a-node
-
--- a link joins the larger of its ends to the smaller
-larger-smaller : (e : Link) → Joins (ends e) (max (e .a) (e .b)) (min (e .a) (e .b))
-larger-smaller e = go (decLe (e .a) (e .b))
-  where
-    go : Dec (e .a ≤ e .b) → Joins (ends e) (max (e .a) (e .b)) (min (e .a) (e .b))
-    go (yes h) = inr (omega arith, omega arith)
-    go (no h) = inl (omega arith, omega arith)
-
-smaller-node : (vs : List ℕ) (e : Link) → Proper vs e → List·Memᴰ (min (e .a) (e .b)) vs
-smaller-node vs e h = go (larger-smaller e)
-  where
-    go : Joins (ends e) (max (e .a) (e .b)) (min (e .a) (e .b)) → List·Memᴰ (min (e .a) (e .b)) vs
-    go (inl j) = Memᴰ·cast (sym (j .1)) (h .b-node)
-    go (inr j) = Memᴰ·cast (sym (j .0)) (h .a-node)
-
 module _ (d : Direction) (g : Network) (valid : Valid g) where
   abbrev es : List Weighted
   es = map (weighted d) (g .links)
@@ -154,7 +132,7 @@ module _ (d : Direction) (g : Network) (valid : Valid g) where
   place h = rw (length-map (g .links) (weighted d)) h
 
   in-range : (i : ℕ) → i < length (g .links) → value d (linkAt g i) ≤ S
-  in-range i h = valid .proper (linkAt g i) (getD-mem (g .links) (linked 0 0 (λ d. 0)) h) .range d
+  in-range i h = proper-at g valid i h .range d
 
   exact-deleted : (vs : List ℕ) (i : ℕ) → exact d (record { nodes = vs; links = deleteAt i (g .links) }) ≡ sum vs (deleteAt i es) []
   unfolding exact
@@ -177,9 +155,6 @@ module _ (d : Direction) (g : Network) (valid : Valid g) where
       weaken d true zero-le (λ t. t)
       (equal d true (sym (law ∙ ap₂ _*_ (add-sub-of-le (in-range i (h .place))) (sym (exact-deleted (g .nodes) i)))))
 
-  proper : (i : ℕ) → i < length (g .links) → Proper (g .nodes) (linkAt g i)
-  proper i h = valid .proper (linkAt g i) (getD-mem (g .links) (linked 0 0 (λ d. 0)) h)
-
   leg-joins : (i v w : ℕ) → Joins (ends (linkAt g i)) v w → Joins (getD es i z .joins) v w
   leg-joins i v w j = subst (λ (e : Weighted). Joins (e .joins) v w) (sym (at i)) j
 
@@ -187,7 +162,7 @@ module _ (d : Direction) (g : Network) (valid : Valid g) where
   unfolding exact
   end-step v i h =
       let e = linkAt g i in
-      let law = rw (at i) at (end-law (g .nodes) es z v (across v e) (h .leg .differ) (h .node) (across-node (g .nodes) v e (proper i (h .place))) i (place (h .place))
+      let law = rw (at i) at (end-law (g .nodes) es z v (across v e) (h .leg .differ) (h .node) (across-node (g .nodes) v e (proper-at g valid i (h .place))) i (place (h .place))
             (leg-joins i v (across v e) (h .leg .joins)) (rw (← map-delete (weighted d) i (g .links)) (all-off d v (deleteAt i (g .links)) (h .others)))) in
       law ∙ ap (λ k. value d e * k) (sym (exact-deleted (without v (g .nodes)) i))
 
@@ -197,7 +172,7 @@ module _ (d : Direction) (g : Network) (valid : Valid g) where
       let e = linkAt g i in
       let keep = min (e .a) (e .b) in
       let gone = max (e .a) (e .b) in
-      let law = rw (at i) at (split-law (g .nodes) es i z (place (h .place)) keep gone (λ same. h .differ (omega arith)) (smaller-node (g .nodes) e (proper i (h .place)))
+      let law = rw (at i) at (split-law (g .nodes) es i z (place (h .place)) keep gone (λ same. h .differ (omega arith)) (smaller-node (g .nodes) e (proper-at g valid i (h .place)))
             (leg-joins i gone keep (larger-smaller e))) in
       let sound : map (moved keep gone) (deleteAt i es) ≡ map (weighted d) (map (renamed keep gone) (deleteAt i (g .links))) =
             ap (map (moved keep gone)) (sym (map-delete (weighted d) i (g .links))) ∙ weighted-renamed d keep gone (deleteAt i (g .links)) in
@@ -267,8 +242,8 @@ module _ (d : Direction) (g : Network) (valid : Valid g) where
       let A = sum vs (deleteAt i (deleteAt j es)) (joint ∷ []) in
       let B = sum vs (deleteAt i (deleteAt j es)) [] in
       let M = S ^ length (others i j (h .order) (h .place)) in
-      let law = rw (at i, at j) at (series-law (g .nodes) es z v (across v e) (h .first .differ) (h .node) (across-node (g .nodes) v e (proper i early))
-            (across v f) (h .second .differ) (across-node (g .nodes) v f (proper j (h .place))) i j (h .order) (place (h .place))
+      let law = rw (at i, at j) at (series-law (g .nodes) es z v (across v e) (h .first .differ) (h .node) (across-node (g .nodes) v e (proper-at g valid i early))
+            (across v f) (h .second .differ) (across-node (g .nodes) v f (proper-at g valid j (h .place))) i j (h .order) (place (h .place))
             (leg-joins i v (across v e) (h .first .joins)) (leg-joins j v (across v f) (h .second .joins))
             (rw (← others-weighted i j (h .order) (h .place)) (all-off d v (others i j (h .order) (h .place)) (h .others)))) in
       let less = sum-more vs (deleteAt i (deleteAt j es)) joint [] in

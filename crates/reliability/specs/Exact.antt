@@ -1,6 +1,7 @@
 -- Exact reliability: the sum over the sets of links that connect all nodes.
-use Prim.Native.Nat.{ℕ, _+_, _-_, _*_}
-use mathlib.Core.List.{List, [], _∷_, map}
+use Prim.Native.Nat.{ℕ, _+_, _-_, _*_, _≤_}
+use mathlib.Core.Path.{_≡_}
+use mathlib.Core.List.{List, [], _∷_, map, List·Memᴰ}
 use mathlib.Core.Bool.{cond}
 use Rattle.rounding.specs.Rounding.{S}
 use Rattle.rounding.specs.declared.Direction.{Direction}
@@ -30,3 +31,17 @@ weighted d e = record { joins = ends e; sound = value d e; broken = S - value d 
 -- N: the exact reliability of a network, at one direction's values, is N over S to the power m
 unfoldable pub exact : Direction → Network → ℕ
 exact d g = sum (g .nodes) (map (weighted d) (g .links)) []
+
+-- a link's low and high value enclose its exact weights
+pub record Enclosed (e : Link) (w : Weighted) : Type 0 where
+  pub joins : ends e ≡ w .joins
+  pub low : e .low * (w .sound + w .broken) ≤ S * w .sound
+  pub high : S * w .sound ≤ e .high * (w .sound + w .broken)
+
+pub data AllEnclosed : List Link → List Weighted → Type 0 where
+  nil : AllEnclosed [] []
+  cons : {e : Link} {w : Weighted} {es : List Link} {ws : List Weighted} → Enclosed e w → AllEnclosed es ws → AllEnclosed (e ∷ es) (w ∷ ws)
+
+-- at first each link's low and high value are equal
+abbrev pub Equal : Network → Type 0
+Equal g = (e : Link) → List·Memᴰ e (g .links) → e .low ≡ e .high
