@@ -1,15 +1,15 @@
 -- What `connected` means: by paths, and by colourings.
 use Prim.Native.Nat.{ℕ, _≤_, min, max}
 use mathlib.Core.Path.{_≡_, refl, sym, ap, _∙_}
-use mathlib.Core.List.{List, [], _∷_, List·Memᴰ, List·Memᴰ·head, List·Memᴰ·tail, List·Memᴰ·not-nil}
+use mathlib.Core.List.{List, [], _∷_, List·Memᴰ, List·Memᴰ·head, List·Memᴰ·tail}
 use mathlib.Core.Bool.{Bool, true, false, cond}
 use mathlib.Core.Logic.{_↔_}
 use lib.Dec.{eqb}
-use borrow.Author.Tests.{eqb-true, eqb-false, eq-eqb}
+use borrow.Author.Tests.{eqb-true, eq-eqb}
 use native.Mathlib.Decide.{decLe}
 use native.Mathlib.Omega.{arith}
 use Rattle.reliability.specs.Networks.{Ends, merge, label, connected, Path, here, forth, back}
-use Rattle.reliability.proofs.Lists.{every-at, every-of}
+use Rattle.reliability.proofs.Lists.{by-eqb, every-at, every-of}
 
 -- ---- paths
 
@@ -31,18 +31,11 @@ module _ {t : List Ends} where
 
   to-merged : (x y z : ℕ) → Path t x y → Path t z (merge x y z)
   unfolding merge
-  to-merged x y z p = go (eqb z (max x y)) refl (decLe x y)
+  to-merged x y z p = by-eqb (λ b. Path t z (cond b (min x y) z)) z (max x y) (λ e. go e (decLe x y)) (λ n. here)
     where
-      go : (b : Bool) → eqb z (max x y) ≡ b → Dec (x ≤ y) → Path t z (cond b (min x y) z)
-      go true e (yes h) =
-          let zy : z ≡ y = omega (arith, eqb-true z (max x y) e) in
-          let mx : min x y ≡ x = omega arith in
-          rw (zy, mx) (turn p)
-      go true e (no h) =
-          let zx : z ≡ x = omega (arith, eqb-true z (max x y) e) in
-          let my : min x y ≡ y = omega arith in
-          rw (zx, my) p
-      go false e d = here
+      go : z ≡ max x y → Dec (x ≤ y) → Path t z (min x y)
+      go e (yes h) = let zy : z ≡ y = omega arith in let mx : min x y ≡ x = omega arith in rw (zy, mx) (turn p)
+      go e (no h) = let zx : z ≡ x = omega arith in let my : min x y ≡ y = omega arith in rw (zx, my) p
 
 -- a path leads from each node to its label
 pub to-label : (t : List Ends) (v : ℕ) → Path t v (label t v)
@@ -75,11 +68,7 @@ const-map f χ (e ∷ t) c = (ap f (c .0), const-map f χ t (c .1))
 
 merged : (x y z : ℕ) → ((z ≡ max x y → ⊥) → z ≡ min x y) → merge x y z ≡ min x y
 unfolding merge
-merged x y z h = go (eqb z (max x y)) refl
-  where
-    go : (b : Bool) → eqb z (max x y) ≡ b → cond b (min x y) z ≡ min x y
-    go true e = refl
-    go false e = h (eqb-false z (max x y) e)
+merged x y z h = by-eqb (λ b. cond b (min x y) z ≡ min x y) z (max x y) (λ e. refl) h
 
 -- the labels are such a colouring
 label-const : (t : List Ends) → Const (label t) t
@@ -120,11 +109,19 @@ connected-means vs t = (
 pub connected-sound : (vs : List ℕ) (t : List Ends) → connected vs t ≡ true → Conn vs t
 connected-sound vs t h χ c u v m n = along χ t c (connected-means vs t .0 h u v m n)
 
-bool-eq : (p q : Bool) → (p ≡ true → q ≡ true) → (q ≡ true → p ≡ true) → p ≡ q
-bool-eq true q f g = sym (f refl)
-bool-eq false true f g = g refl
-bool-eq false false f g = refl
-
+-- two tests agree where each implies the other
 pub connected-eq : (vs ws : List ℕ) (t s : List Ends) → (Conn vs t → Conn ws s) → (Conn ws s → Conn vs t) → connected vs t ≡ connected ws s
 connected-eq vs ws t s f g =
-    bool-eq _ _ (λ h. connected-complete ws s (f (connected-sound vs t h))) (λ h. connected-complete vs t (g (connected-sound ws s h)))
+    go _ _ (λ h. connected-complete ws s (f (connected-sound vs t h))) (λ h. connected-complete vs t (g (connected-sound ws s h)))
+  where
+    go : (p q : Bool) → (p ≡ true → q ≡ true) → (q ≡ true → p ≡ true) → p ≡ q
+    go true q f g = sym (f refl)
+    go false true f g = g refl
+    go false false f g = refl
+
+pub not-connected : (vs : List ℕ) (t : List Ends) → (Conn vs t → ⊥) → connected vs t ≡ false
+not-connected vs t n = go (connected vs t) (connected-sound vs t)
+  where
+    go : (b : Bool) → (b ≡ true → Conn vs t) → b ≡ false
+    go true h = absurd (n (h refl))
+    go false h = refl

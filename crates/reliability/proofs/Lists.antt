@@ -3,13 +3,21 @@ use Prim.Native.Nat.{ℕ, zero, suc, _<_}
 use mathlib.Core.Path.{_≡_, refl, sym, ap, _∙_}
 use mathlib.Core.List.{List, [], _∷_, map, List·Memᴰ, List·Memᴰ·head, List·Memᴰ·tail, List·Memᴰ·not-nil, List·Memᴰ·cases-cons}
 use mathlib.Core.Bool.{Bool, true, false, and-eq-true-iff}
-use mathlib.Core.Logic.{_⊎_, _↔_, inl, inr, ⊎-map}
+use mathlib.Core.Logic.{_⊎_, inl, inr, ⊎-map, ⊎-elim}
 use lib.Dec.{eqb}
 use native.Mathlib.Nat.{not-suc-le-zero, le-of-suc-le-suc}
 use lib.ListN.{length, getD, set}
 use borrow.Author.Tests.{eqb-true, eqb-false}
 use Rattle.reliability.specs.Networks.{every}
 use Rattle.reliability.specs.Rule.{deleteAt, without}
+
+-- what holds of a test of two numbers, either way
+pub by-eqb : (P : Bool → Type 0) (u v : ℕ) → (u ≡ v → P true) → ((u ≡ v → ⊥) → P false) → P (eqb u v)
+by-eqb P u v same other = go (eqb u v) refl
+  where
+    go : (b : Bool) → eqb u v ≡ b → P b
+    go true e = same (eqb-true u v e)
+    go false e = other (eqb-false u v e)
 
 module _ {A : Type 0} where
   pub length-delete : {i : ℕ} (l : List A) → i < length l → suc (length (deleteAt i l)) ≡ length l
@@ -88,22 +96,16 @@ module _ {A B : Type 0} (f : A → B) where
 module _ (v u : ℕ) where
   pub mem-without : (l : List ℕ) → List·Memᴰ u (without v l) → List·Memᴰ u l × (u ≡ v → ⊥)
   unfolding without
-  mem-without [] m = absurd (List·Memᴰ·not-nil m)
-  mem-without (w ∷ l) m = go (eqb w v) refl m (λ n. mem-without l n)
+  mem-without [] = λ m. absurd (List·Memᴰ·not-nil m)
+  mem-without (w ∷ l) = by-eqb (λ b. List·Memᴰ u (elim b [ true ↦ without v l | false ↦ w ∷ without v l ]) → List·Memᴰ u (w ∷ l) × (u ≡ v → ⊥)) w v
+      (λ e m. later (mem-without l m))
+      (λ n m. ⊎-elim (λ p. (List·Memᴰ·head p, λ q. n (sym p ∙ q))) (λ m. later (mem-without l m)) (List·Memᴰ·cases-cons m))
     where
-      go : (t : Bool) → eqb w v ≡ t → List·Memᴰ u (elim t [ true ↦ without v l | false ↦ w ∷ without v l ])
-          → (List·Memᴰ u (without v l) → List·Memᴰ u l × (u ≡ v → ⊥)) → List·Memᴰ u (w ∷ l) × (u ≡ v → ⊥)
-      go true e m ih = (List·Memᴰ·tail (ih m .0), ih m .1)
-      go false e (List·Memᴰ·head p) ih = (List·Memᴰ·head p, λ q. eqb-false w v e (sym p ∙ q))
-      go false e (List·Memᴰ·tail m) ih = (List·Memᴰ·tail (ih m .0), ih m .1)
+      later : List·Memᴰ u l × (u ≡ v → ⊥) → List·Memᴰ u (w ∷ l) × (u ≡ v → ⊥)
+      later r = (List·Memᴰ·tail (r .0), r .1)
 
   pub without-mem : (l : List ℕ) → List·Memᴰ u l → (u ≡ v → ⊥) → List·Memᴰ u (without v l)
   unfolding without
-  without-mem (w ∷ l) m n = go (eqb w v) refl m (λ m. without-mem l m n)
-    where
-      go : (t : Bool) → eqb w v ≡ t → List·Memᴰ u (w ∷ l) → (List·Memᴰ u l → List·Memᴰ u (without v l))
-          → List·Memᴰ u (elim t [ true ↦ without v l | false ↦ w ∷ without v l ])
-      go true e (List·Memᴰ·head p) ih = absurd (n (p ∙ eqb-true w v e))
-      go true e (List·Memᴰ·tail m) ih = ih m
-      go false e (List·Memᴰ·head p) ih = List·Memᴰ·head p
-      go false e (List·Memᴰ·tail m) ih = List·Memᴰ·tail (ih m)
+  without-mem (w ∷ l) m n = by-eqb (λ b. List·Memᴰ u (elim b [ true ↦ without v l | false ↦ w ∷ without v l ])) w v
+      (λ e. ⊎-elim (λ p. absurd (n (p ∙ e))) (λ m. without-mem l m n) (List·Memᴰ·cases-cons m))
+      (λ o. ⊎-elim (λ p. List·Memᴰ·head p) (λ m. List·Memᴰ·tail (without-mem l m n)) (List·Memᴰ·cases-cons m))

@@ -2,20 +2,20 @@
 use Prim.Native.Nat.{ℕ, zero, suc, _+_, _*_, _≤_, _<_, zero-le}
 use mathlib.Core.Path.{_≡_, refl, sym, ap, ap₂, _∙_}
 use mathlib.Core.List.{List, [], _∷_, map, List·Memᴰ, List·Memᴰ·head, List·Memᴰ·tail}
-use mathlib.Core.Bool.{Bool, true, false, cond, false≢true}
-use mathlib.Core.Logic.{_↔_, _⊎_, inl, inr}
+use mathlib.Core.Bool.{Bool, true, false, cond}
+use mathlib.Core.Logic.{_↔_, _⊎_, inl, inr, Iff·trans, Iff·symm}
 use lib.Dec.{eqb}
 use lib.ListN.{length, getD, set, length-set}
 use lib.Seq.{getD-set-same}
-use borrow.Author.Tests.{eqb-true, eqb-false, eq-eqb, ne-eqb}
-use native.Mathlib.Nat.{add-mul, mul-zero, add-zero, mul-one, mul-le-mul-left, mul-le-mul-right, add-le-add, le-refl, le-trans, le-of-eq, le-antisymm, not-suc-le-zero, le-of-suc-le-suc}
+use borrow.Author.Tests.{eq-eqb, ne-eqb}
+use native.Mathlib.Nat.{add-mul, mul-zero, add-zero, mul-le-mul-left, mul-le-mul-right, add-le-add, le-refl, le-trans, le-antisymm, not-suc-le-zero, le-of-suc-le-suc}
 use native.Mathlib.Omega.{arith}
 use Rattle.rounding.proofs.Laws.{ring, rearranged}
 use Rattle.reliability.specs.Networks.{Ends, every, connected}
 use Rattle.reliability.specs.Exact.{Weighted, sum, total}
 use Rattle.reliability.specs.Rule.{deleteAt, without, rename}
-use Rattle.reliability.proofs.Lists.{length-delete, getD-delete, delete-set, set-delete, mem-without, without-mem}
-use Rattle.reliability.proofs.Connection.{Const, Conn, connected-sound, connected-complete, connected-eq}
+use Rattle.reliability.proofs.Lists.{by-eqb, length-delete, getD-delete, delete-set, set-delete, mem-without, without-mem}
+use Rattle.reliability.proofs.Connection.{Const, Conn, connected-sound, connected-complete, connected-eq, not-connected}
 
 -- e joins v and w, either way round
 abbrev pub Joins : Ends → ℕ → ℕ → Type 0
@@ -35,6 +35,9 @@ moved keep gone e = record { joins = record { a = rename keep gone (e .joins .a)
 joins-colour : (e : Ends) (v w : ℕ) → Joins e v w → (χ : ℕ → ℕ) → (χ (e .a) ≡ χ (e .b)) ↔ (χ v ≡ χ w)
 joins-colour e v w (inl p) χ = (λ h. cc, λ h. cc)
 joins-colour e v w (inr p) χ = (λ h. cc, λ h. cc)
+
+same-ends : (e f : Ends) (v w : ℕ) → Joins e v w → Joins f v w → (χ : ℕ → ℕ) → (χ (e .a) ≡ χ (e .b)) ↔ (χ (f .a) ≡ χ (f .b))
+same-ends e f v w p q χ = Iff·trans (joins-colour e v w p χ) (Iff·symm (joins-colour f v w q χ))
 
 -- ---- sets, and the links added to them
 
@@ -132,8 +135,7 @@ parallel-law vs es i j z h k v w p q =
     let e = getD es i z in
     let f = getD es j z in
     let others = deleteAt i (deleteAt j es) in
-    let ef : (χ : ℕ → ℕ) → (χ (e .joins .a) ≡ χ (e .joins .b)) ↔ (χ (f .joins .a) ≡ χ (f .joins .b)) =
-    λ χ. let l = joins-colour (e .joins) v w p χ in let r = joins-colour (f .joins) v w q χ in (λ c. r .1 (l .0 c), λ c. l .1 (r .0 c)) in
+    let ef = same-ends (e .joins) (f .joins) v w p q in
     front-two vs es i j z h k
     ∙ rw (
       sum-same vs others (e .joins ∷ f .joins ∷ []) (e .joins ∷ []) (λ χ. (λ c. (c .0, tt), λ c. (c .0, (ef χ .0 (c .0), tt)))),
@@ -159,11 +161,7 @@ rename-other keep gone {v} n = rw (ne-eqb v gone n)
 
 -- where both have one colour, a node keeps its own
 rename-colour : (χ : ℕ → ℕ) {keep gone : ℕ} → χ keep ≡ χ gone → (v : ℕ) → χ (rename keep gone v) ≡ χ v
-rename-colour χ {keep} {gone} h v = go (eqb v gone) refl
-  where
-    go : (b : Bool) → eqb v gone ≡ b → χ (cond b keep v) ≡ χ v
-    go true e = h ∙ ap χ (sym (eqb-true v gone e))
-    go false e = refl
+rename-colour χ {keep} {gone} h v = by-eqb (λ b. χ (cond b keep v) ≡ χ v) v gone (λ e. h ∙ ap χ (sym e)) (λ n. refl)
 
 moved-off : (keep gone : ℕ) (es : List Weighted) → AllOff gone es → map (moved keep gone) es ≡ es
 moved-off keep gone [] off = refl
@@ -177,11 +175,8 @@ module _ (vs : List ℕ) (keep gone : ℕ) (differ : keep ≡ gone → ⊥) (ink
   Contracts t s = (χ : ℕ → ℕ) → (Const χ s → Const (λ v. χ (rename keep gone v)) t) × (Const χ t → (χ keep ≡ χ gone) × Const χ s)
 
   kept : (v : ℕ) → List·Memᴰ v vs → List·Memᴰ (rename keep gone v) (without gone vs)
-  kept v m = go (eqb v gone) refl
-    where
-      go : (b : Bool) → eqb v gone ≡ b → List·Memᴰ (cond b keep v) (without gone vs)
-      go true e = without-mem gone keep vs ink differ
-      go false e = without-mem gone v vs m (eqb-false v gone e)
+  kept v m =
+      by-eqb (λ b. List·Memᴰ (cond b keep v) (without gone vs)) v gone (λ e. without-mem gone keep vs ink differ) (λ n. without-mem gone v vs m n)
 
   contracted-connected : (t s : List Ends) → Contracts t s → connected vs t ≡ connected (without gone vs) s
   contracted-connected t s k = connected-eq vs (without gone vs) t s out into
@@ -216,6 +211,13 @@ module _ (vs : List ℕ) (keep gone : ℕ) (differ : keep ≡ gone → ⊥) (ink
     λ c. (sym (joins-colour e gone keep j χ .0 (c .0)), tt),
   )
 
+  -- of two links at gone one is left, between their other ends
+  contracts-two : (u : ℕ) → (u ≡ gone → ⊥) → (e f : Ends) → Joins e gone keep → Joins f gone u → Contracts (e ∷ f ∷ []) (record { a = keep; b = u } ∷ [])
+  contracts-two u ud e f p q χ = let k = contracts e p χ in (
+    λ c. (k .0 tt .0, (joins-colour f gone u q (λ v. χ (rename keep gone v)) .1 (ap χ (rename-gone keep gone) ∙ c .0 ∙ ap χ (sym (rename-other keep gone ud))), tt)),
+    λ c. let kg = k .1 (c .0, tt) .0 in (kg, (kg ∙ joins-colour f gone u q χ .0 (c .1 .0), tt)),
+  )
+
   -- links that do not touch gone stay as they are
   shrunk : (es : List Weighted) → AllOff gone es → (t s : List Ends) → Contracts t s → sum vs es t ≡ sum (without gone vs) es s
   shrunk es off t s k = contracted es t s k ∙ ap (λ l. sum (without gone vs) l s) (moved-off keep gone es off)
@@ -225,10 +227,14 @@ module _ (vs : List ℕ) (keep gone : ℕ) (differ : keep ≡ gone → ⊥) (ink
 
 -- a node that no link touches, with another beside it: nothing connects
 lone : (vs : List ℕ) (es : List Weighted) (v w : ℕ) → (w ≡ v → ⊥) → List·Memᴰ v vs → List·Memᴰ w vs → AllOff v es → sum vs es [] ≡ 0
-lone vs es v w differ inv inw off = none-connects vs es (go (connected vs (map (λ e. e .joins) es)) refl)
+lone vs es v w differ inv inw off =
+    none-connects vs es (not-connected vs _ (λ c. let h = c χ (same es off) w v inw inv in omega (arith, dark w differ, light)))
   where
     χ : ℕ → ℕ
     χ u = cond (eqb u v) 1 0
+
+    light : χ v ≡ 1
+    light = rw (eq-eqb v v refl)
 
     dark : (u : ℕ) → (u ≡ v → ⊥) → χ u ≡ 0
     dark u n = rw (ne-eqb u v n)
@@ -236,13 +242,6 @@ lone vs es v w differ inv inw off = none-connects vs es (go (connected vs (map (
     same : (fs : List Weighted) → AllOff v fs → Const χ (map (λ e. e .joins) fs)
     same [] o = tt
     same (f ∷ fs) o = let p = o f (List·Memᴰ·head refl) in (dark (f .joins .a) (p .0) ∙ sym (dark (f .joins .b) (p .1)), same fs (λ g m. o g (List·Memᴰ·tail m)))
-
-    go : (b : Bool) → connected vs (map (λ e. e .joins) es) ≡ b → connected vs (map (λ e. e .joins) es) ≡ false
-    go false e = e
-    go true e = let h = connected-sound vs _ e χ (same es off) w v inw inv in absurd (omega (arith, dark w differ, h, one))
-      where
-        one : χ v ≡ 1
-        one = rw (eq-eqb v v refl)
 
 module _ (vs : List ℕ) (es : List Weighted) (z : Weighted) (v w : ℕ) (differ : w ≡ v → ⊥) (inv : List·Memᴰ v vs) (inw : List·Memᴰ w vs) where
   -- step 5: an end multiplies
@@ -259,28 +258,16 @@ module _ (vs : List ℕ) (es : List Weighted) (z : Weighted) (v w : ℕ) (differ
       → let e = getD es i z in let f = getD es j z in let others = deleteAt i (deleteAt j es) in
       sum vs es [] ≡ e .sound * f .sound * sum (without v vs) others (record { a = w; b = u } ∷ []) + (e .sound * f .broken + e .broken * f .sound) * sum (without v vs) others []
   series-law u ud inu i j h k p q off =
+      let e = getD es i z .joins in
+      let f = getD es j z .joins in
+      let others = deleteAt i (deleteAt j es) in
       front-two vs es i j z h k
       ∙ rw (
-        shrunk vs w v differ inw others off (e ∷ f ∷ []) (record { a = w; b = u } ∷ []) both,
+        shrunk vs w v differ inw others off (e ∷ f ∷ []) (record { a = w; b = u } ∷ []) (contracts-two vs w v differ inw u ud e f p q),
         pendant vs u v ud inu others off f q,
         pendant vs w v differ inw others off e p,
         lone vs others v w differ inv inw off,
       ) (simp (mul-zero, add-zero, ring))
-    where
-      e : Ends
-      e = getD es i z .joins
-
-      f : Ends
-      f = getD es j z .joins
-
-      others : List Weighted
-      others = deleteAt i (deleteAt j es)
-
-      both : Contracts vs w v differ inw (e ∷ f ∷ []) (record { a = w; b = u } ∷ [])
-      both χ = let k = contracts vs w v differ inw e p χ in (
-        λ c. (k .0 tt .0, (joins-colour f v u q (λ n. χ (rename w v n)) .1 (ap χ (rename-gone w v) ∙ c .0 ∙ ap χ (sym (rename-other w v ud))), tt)),
-        λ c. let wv = k .1 (c .0, tt) .0 in (wv, (wv ∙ joins-colour f v u q χ .0 (c .1 .0), tt)),
-      )
 
 -- step 7: the sets that hold a link are those of the contracted network
 pub split-law : (vs : List ℕ) (es : List Weighted) (i : ℕ) (z : Weighted) → i < length es

@@ -72,7 +72,8 @@ unfoldable pub connected : List ℕ → List Ends → Bool
 connected [] t = true
 connected (v ∷ vs) t = let f = label t in every (λ u. eqb (f u) (f v)) vs
 
--- a path of links of t from one node to another: here, or along a link of t, either way, and on from there
+-- a path of links of t from one node to another: here, or along a link of t, either way, and on from there;
+-- the links t connect the nodes where such a path leads from each to each (connected-means in proofs/Connection.antt)
 pub data Path (t : List Ends) : ℕ → ℕ → Type 0 where
   here : {v : ℕ} → Path t v v
   forth : {e : Ends} {v : ℕ} → List·Memᴰ e t → Path t (e .b) v → Path t (e .a) v
