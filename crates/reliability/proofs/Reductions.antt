@@ -74,7 +74,7 @@ module _ (d : Direction) (p q A B M : ℕ) (hp : p ≤ S) (hq : q ≤ S) (less :
       go : Dec (0 < either p q) → Within d true (S * mixed (series d p q) + S * S * M) (S * (factor d p q * mixed (series d p q))) (S * (p * q * A + one * B))
       go (yes pos) =
           let value = shares d (v * W) ((S - v) * W) (S * (p * q)) (S * one) A B M
-                (omega (arith, portions v W (series-range d p q hp hq), either-parts p q hp hq)) less most (rounded d (series-rounds d p q pos)) in
+          (omega (arith, portions v W (series-range d p q hp hq), either-parts p q hp hq)) less most (rounded d (series-rounds d p q pos)) in
           let multiplied = by d (mixed v) (rounded d (factor-rounds d p q)) in
           weaken d true (add-le-add (le-of-eq (mul-comm (mixed v) S)) (mul-le-mul-right M (either-range p q hp hq))) (λ t. t)
           (same d (simp ring) (simp ring) (trans d multiplied (same d (simp ring) refl value)))
@@ -83,7 +83,7 @@ module _ (d : Direction) (p q A B M : ℕ) (hp : p ≤ S) (hq : q ≤ S) (less :
           let z = either-zero p q hp hq nil in
           let left : S * (f * mixed v) ≡ 0 = ap (λ k. S * (k * mixed v)) (factor-zero d p q nil) ∙ simp (zero-mul, mul-zero) in
           let right : S * (p * q * A + one * B) ≡ 0 =
-                ap₂ (λ x y. S * (x * y * A + (x * (S - y) + (S - x) * y) * B)) (z .0) (z .1) ∙ simp (zero-mul, mul-zero, add-zero) in
+          ap₂ (λ x y. S * (x * y * A + (x * (S - y) + (S - x) * y) * B)) (z .0) (z .1) ∙ simp (zero-mul, mul-zero, add-zero) in
           weaken d true zero-le (λ t. t) (equal d true (left ∙ sym right))
 
   series-budget : S * mixed (series d p q) + S * S * M ≤ 2 * (S * (S * M))
@@ -163,7 +163,7 @@ module _ (d : Direction) (g : Network) (valid : Valid g) where
   end-step v i h =
       let e = linkAt g i in
       let law = rw (at i) at (end-law (g .nodes) es z v (across v e) (h .leg .differ) (h .node) (across-node (g .nodes) v e (proper-at g valid i (h .place))) i (place (h .place))
-            (leg-joins i v (across v e) (h .leg .joins)) (rw (← map-delete (weighted d) i (g .links)) (all-off d v (deleteAt i (g .links)) (h .others)))) in
+      (leg-joins i v (across v e) (h .leg .joins)) (rw (← map-delete (weighted d) i (g .links)) (all-off d v (deleteAt i (g .links)) (h .others)))) in
       law ∙ ap (λ k. value d e * k) (sym (exact-deleted (without v (g .nodes)) i))
 
   split-step : (i : ℕ) → AtSplit g i → Reduces d g (leaves g (Split i))
@@ -173,9 +173,9 @@ module _ (d : Direction) (g : Network) (valid : Valid g) where
       let keep = min (e .a) (e .b) in
       let gone = max (e .a) (e .b) in
       let law = rw (at i) at (split-law (g .nodes) es i z (place (h .place)) keep gone (λ same. h .differ (omega arith)) (smaller-node (g .nodes) e (proper-at g valid i (h .place)))
-            (leg-joins i gone keep (larger-smaller e))) in
+      (leg-joins i gone keep (larger-smaller e))) in
       let sound : map (moved keep gone) (deleteAt i es) ≡ map (weighted d) (map (renamed keep gone) (deleteAt i (g .links))) =
-            ap (map (moved keep gone)) (sym (map-delete (weighted d) i (g .links))) ∙ weighted-renamed d keep gone (deleteAt i (g .links)) in
+      ap (map (moved keep gone)) (sym (map-delete (weighted d) i (g .links))) ∙ weighted-renamed d keep gone (deleteAt i (g .links)) in
       law ∙ ap₂ (λ l k. value d e * sum (without gone (g .nodes)) l [] + (S - value d e) * k) sound (sym (exact-deleted (g .nodes) i))
 
   -- the links that neither i nor j is
@@ -223,9 +223,9 @@ module _ (d : Direction) (g : Network) (valid : Valid g) where
       let A = sum (g .nodes) (deleteAt i (deleteAt j es)) (ends e ∷ []) in
       let B = sum (g .nodes) (deleteAt i (deleteAt j es)) [] in
       let law = rw (at i, at j) at (parallel-law (g .nodes) es i j z (h .order) (place (h .place)) (e .a) (e .b)
-            (leg-joins i (e .a) (e .b) (inl (refl, refl))) (leg-joins j (e .a) (e .b) (h .alike))) in
+      (leg-joins i (e .a) (e .b) (inl (refl, refl))) (leg-joins j (e .a) (e .b) (h .alike))) in
       let worked = in-parallel d (value d e) (value d f) A B (S ^ length (others i j (h .order) (h .place))) (in-range i early) (in-range j (h .place))
-            (sum-more (g .nodes) (deleteAt i (deleteAt j es)) (ends e) []) (below-total i j (h .order) (h .place) (g .nodes) (ends e ∷ [])) in
+      (sum-more (g .nodes) (deleteAt i (deleteAt j es)) (ends e) []) (below-total i j (h .order) (h .place) (g .nodes) (ends e ∷ [])) in
       weaken d true (le-of-eq (sym (ap (λ n. S ^ n) (joined-length i j (h .order) (h .place) (inParallel e f)) ∙ pow-succ' S (length (others i j (h .order) (h .place)))))) (λ t. t)
       (same d (ap (λ k. S * k) (sym (exact-joined i j (h .order) (h .place) (g .nodes) (e .a) (e .b) (λ c. parallel c (value c e) (value c f))))) (sym law) worked)
 
@@ -243,9 +243,9 @@ module _ (d : Direction) (g : Network) (valid : Valid g) where
       let B = sum vs (deleteAt i (deleteAt j es)) [] in
       let M = S ^ length (others i j (h .order) (h .place)) in
       let law = rw (at i, at j) at (series-law (g .nodes) es z v (across v e) (h .first .differ) (h .node) (across-node (g .nodes) v e (proper-at g valid i early))
-            (across v f) (h .second .differ) (across-node (g .nodes) v f (proper-at g valid j (h .place))) i j (h .order) (place (h .place))
-            (leg-joins i v (across v e) (h .first .joins)) (leg-joins j v (across v f) (h .second .joins))
-            (rw (← others-weighted i j (h .order) (h .place)) (all-off d v (others i j (h .order) (h .place)) (h .others)))) in
+      (across v f) (h .second .differ) (across-node (g .nodes) v f (proper-at g valid j (h .place))) i j (h .order) (place (h .place))
+      (leg-joins i v (across v e) (h .first .joins)) (leg-joins j v (across v f) (h .second .joins))
+      (rw (← others-weighted i j (h .order) (h .place)) (all-off d v (others i j (h .order) (h .place)) (h .others)))) in
       let less = sum-more vs (deleteAt i (deleteAt j es)) joint [] in
       let most = below-total i j (h .order) (h .place) vs (joint ∷ []) in
       let worked = in-series d p q A B M (in-range i early) (in-range j (h .place)) less most in

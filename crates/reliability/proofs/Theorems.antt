@@ -29,16 +29,23 @@ power-pos m = one-le-pow m S (lit< tt)
 
 -- ---- from a link's low and high value to the exact weights between them
 
+-- a share x of x + y, and a value v of S: v above or below, as fractions, so that one raises the other
+value-share : (v x y : ℕ) → v ≤ S → v * (x + y) ≤ S * x → v * (x + y) ≤ x * (v + (S - v))
+value-share v x y range h = rw (add-sub-of-le range, mul-comm x S) h
+
+share-value : (v x y : ℕ) → v ≤ S → S * x ≤ v * (x + y) → x * (v + (S - v)) ≤ v * (x + y)
+share-value v x y range h = rw (add-sub-of-le range, mul-comm x S) h
+
 low-raised : (es : List Link) (ws : List Weighted) → ((e : Link) → List·Memᴰ e es → e .low ≤ S) → AllEnclosed es ws → AllRaised (map (weighted Down) es) ws
 low-raised es ws range nil = none
 low-raised es ws range (cons {e = e} {w = w} {es = rest} h t) =
-    more (h .joins, omega (arith, h .low, ap (λ k. w .sound * k) (add-sub-of-le (range e (List·Memᴰ·head refl))), mul-comm (w .sound) S))
+    more {e = weighted Down e} (h .joins, value-share (e .low) (w .sound) (w .broken) (range e (List·Memᴰ·head refl)) (h .low))
     (low-raised rest _ (λ f m. range f (List·Memᴰ·tail m)) t)
 
 high-raised : (es : List Link) (ws : List Weighted) → ((e : Link) → List·Memᴰ e es → e .high ≤ S) → AllEnclosed es ws → AllRaised ws (map (weighted Up) es)
 high-raised es ws range nil = none
 high-raised es ws range (cons {e = e} {w = w} {es = rest} h t) =
-    more (sym (h .joins), omega (arith, h .high, ap (λ k. w .sound * k) (add-sub-of-le (range e (List·Memᴰ·head refl))), mul-comm (w .sound) S))
+    more {f = weighted Up e} (sym (h .joins), share-value (e .high) (w .sound) (w .broken) (range e (List·Memᴰ·head refl)) (h .high))
     (high-raised rest _ (λ f m. range f (List·Memᴰ·tail m)) t)
 
 -- over another total
@@ -57,7 +64,8 @@ equal-sums g equal = ap (λ l. sum (g .nodes) l []) (go (g .links) equal)
   where
     go : (es : List Link) → ((e : Link) → List·Memᴰ e es → e .low ≡ e .high) → map (weighted Up) es ≡ map (weighted Down) es
     go [] h = refl
-    go (e ∷ es) h = ap₂ _∷_ (λ i. record { joins = ends e; sound = h e (List·Memᴰ·head refl) (~ i); broken = S - e .low }) (go es (λ f m. h f (List·Memᴰ·tail m)))
+    go (e ∷ es) h =
+        ap₂ _∷_ (ap (λ (v : ℕ). record { joins = ends e; sound = v; broken = S - v }) (sym (h e (List·Memᴰ·head refl)))) (go es (λ f m. h f (List·Memᴰ·tail m)))
 
 module _ (g : Network) (valid : Valid g) (limit : ℕ) where
   abbrev m : ℕ
@@ -89,11 +97,12 @@ module _ (g : Network) (valid : Valid g) (limit : ℕ) where
   pub enclosure : (ws : List Weighted) → AllEnclosed (g .links) ws
       → (figure g limit .low * total ws ≤ S * sum (g .nodes) ws []) × (S * sum (g .nodes) ws [] ≤ figure g limit .high * total ws)
   unfolding exact
-  enclosure ws h =
-      (over-total (figure g limit .low) (total ws) (S ^ m) (exact Down g) (sum (g .nodes) ws []) (power-pos m) (worked Down .bounds)
-      (rw (← total-is Down (g .links) (λ e k. valid .proper e k .range Down)) (raised (g .nodes) (map (weighted Down) (g .links)) ws [] (low-raised (g .links) ws (λ e k. valid .proper e k .range Down) h))),
-      under-total (figure g limit .high) (total ws) (S ^ m) (exact Up g) (sum (g .nodes) ws []) (power-pos m) (worked Up .bounds)
-      (rw (← total-is Up (g .links) (λ e k. valid .proper e k .range Up)) (raised (g .nodes) ws (map (weighted Up) (g .links)) [] (high-raised (g .links) ws (λ e k. valid .proper e k .range Up) h))))
+  enclosure ws h = (
+    over-total (figure g limit .low) (total ws) (S ^ m) (exact Down g) (sum (g .nodes) ws []) (power-pos m) (worked Down .bounds)
+        (rw (← total-is Down (g .links) (λ e k. valid .proper e k .range Down)) (raised (g .nodes) (map (weighted Down) (g .links)) ws [] (low-raised (g .links) ws (λ e k. valid .proper e k .range Down) h))),
+    under-total (figure g limit .high) (total ws) (S ^ m) (exact Up g) (sum (g .nodes) ws []) (power-pos m) (worked Up .bounds)
+        (rw (← total-is Up (g .links) (λ e k. valid .proper e k .range Up)) (raised (g .nodes) ws (map (weighted Up) (g .links)) [] (high-raised (g .links) ws (λ e k. valid .proper e k .range Up) h))),
+  )
 
   module _ (equal : Equal g) where
     -- demand 2: low × S^m ≤ S × N ≤ high × S^m
@@ -108,4 +117,7 @@ module _ (g : Network) (valid : Valid g) (limit : ℕ) where
     width done =
         let low = worked Down .close done in
         let high = worked Up .close done in
-        le-of-mul-le-mul-right {k = S ^ m} ? (power-pos m)
+        let c = m + 2 * n in
+        let wide : figure g limit .high ≤ figure g limit .low + (c + c) = le-of-mul-le-mul-right {k = S ^ m}
+        (omega (arith, ap (λ k. S * k) (equal-sums g equal), add-mul (figure g limit .low) (c + c) (S ^ m), add-mul c c (S ^ m))) (power-pos m) in
+        omega arith
