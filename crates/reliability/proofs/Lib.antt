@@ -10,3 +10,5 @@ pub mod Within
 pub mod Reductions
 pub mod Enclosure
 pub mod Theorems
+pub mod Signed
+pub mod Comparisons

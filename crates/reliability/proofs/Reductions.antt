@@ -20,7 +20,7 @@ use Rattle.reliability.specs.Networks.{Network, Valid, Ends, ends, value
 use Rattle.reliability.specs.Exact.{Weighted, weighted, sum, total, exact}
 use Rattle.reliability.specs.Rule.{inParallel, inSeries, across, deleted, removed, joined, contracted, renamed, rename, deleteAt, without, leaves, Remainder, settled, rest, scaled, branches}
 use Rattle.reliability.proofs.Lists.{map-delete, map-set, mem-delete, length-delete}
-use Rattle.reliability.proofs.States.{Joins, Off, AllOff, moved, sum-more, sum-total, one-node, none-connects, loop-law, parallel-law, joined-law, end-law, series-law, split-law}
+use Rattle.reliability.proofs.States.{Joins, Off, AllOff, moved, sum-more, sum-total, one-node, none-connects, loop-law, parallel-law, joined-law, end-law, series-law, contraction, front}
 use Rattle.reliability.proofs.Validity.{proper-at, across-node, larger-smaller, smaller-node}
 use Rattle.reliability.proofs.Steps.{Fits, Clear, AtLoop, AtPair, AtEnd, AtSeries, AtSplit}
 use Rattle.reliability.proofs.Within.{Within, equal, rounded, weaken, trans, by, same, shares}
@@ -166,17 +166,26 @@ module _ (d : Direction) (g : Network) (valid : Valid g) where
       (leg-joins i v (across v e) (h .leg .joins)) (rw (← map-delete (weighted d) i (g .links)) (all-off d v (deleteAt i (g .links)) (h .others)))) in
       law ∙ ap (λ k. value d e * k) (sym (exact-deleted (without v (g .nodes)) i))
 
-  split-step : (i : ℕ) → AtSplit g i → Reduces d g (leaves g (Split i))
-  unfolding exact leaves
-  split-step i h =
+  sound-is : (i : ℕ) → AtSplit g i → sum (g .nodes) (deleteAt i es) (ends (linkAt g i) ∷ []) ≡ exact d (contracted (linkAt g i) (deleted i g))
+  unfolding exact
+  sound-is i h =
       let e = linkAt g i in
       let keep = min (e .a) (e .b) in
       let gone = max (e .a) (e .b) in
-      let law = rw (at i) at (split-law (g .nodes) es i z (place (h .place)) keep gone (λ same. h .differ (omega arith)) (smaller-node (g .nodes) e (proper-at g valid i (h .place)))
-      (leg-joins i gone keep (larger-smaller e))) in
-      let sound : map (moved keep gone) (deleteAt i es) ≡ map (weighted d) (map (renamed keep gone) (deleteAt i (g .links))) =
-      ap (map (moved keep gone)) (sym (map-delete (weighted d) i (g .links))) ∙ weighted-renamed d keep gone (deleteAt i (g .links)) in
-      law ∙ ap₂ (λ l k. value d e * sum (without gone (g .nodes)) l [] + (S - value d e) * k) sound (sym (exact-deleted (g .nodes) i))
+      contraction (g .nodes) (deleteAt i es) (ends e) keep gone (λ same. h .differ (omega arith)) (smaller-node (g .nodes) e (proper-at g valid i (h .place))) (larger-smaller e)
+      ∙ ap (λ l. sum (without gone (g .nodes)) l [])
+      (ap (map (moved keep gone)) (sym (map-delete (weighted d) i (g .links))) ∙ weighted-renamed d keep gone (deleteAt i (g .links)))
+
+  -- more sets connect the contracted network
+  pub sound-more : (i : ℕ) → AtSplit g i → exact d (deleted i g) ≤ exact d (contracted (linkAt g i) (deleted i g))
+  sound-more i h =
+      rw (exact-deleted (g .nodes) i, ← sound-is i h) (sum-more (g .nodes) (deleteAt i es) (ends (linkAt g i)) [])
+
+  split-step : (i : ℕ) → AtSplit g i → Reduces d g (leaves g (Split i))
+  unfolding exact leaves
+  split-step i h =
+      rw (at i) at (front (g .nodes) es [] i z (place (h .place)))
+      ∙ ap₂ (λ s b. value d (linkAt g i) * s + (S - value d (linkAt g i)) * b) (sound-is i h) (sym (exact-deleted (g .nodes) i))
 
   -- the links that neither i nor j is
   module _ (i j : ℕ) (order : i < j) (there : j < length (g .links)) where

@@ -270,12 +270,9 @@ module _ (vs : List ℕ) (es : List Weighted) (z : Weighted) (v w : ℕ) (differ
       ) (simp (mul-zero, add-zero, ring))
 
 -- step 7: the sets that hold a link are those of the contracted network
-pub split-law : (vs : List ℕ) (es : List Weighted) (i : ℕ) (z : Weighted) → i < length es
-    → (keep gone : ℕ) → (keep ≡ gone → ⊥) → List·Memᴰ keep vs → Joins (getD es i z .joins) gone keep
-    → sum vs es [] ≡ getD es i z .sound * sum (without gone vs) (map (moved keep gone) (deleteAt i es)) [] + getD es i z .broken * sum vs (deleteAt i es) []
-split-law vs es i z h keep gone differ ink j =
-    let e = getD es i z .joins in
-    front vs es [] i z h ∙ rw (contracted vs keep gone differ ink (deleteAt i es) (e ∷ []) [] (contracts vs keep gone differ ink e j))
+pub contraction : (vs : List ℕ) (es : List Weighted) (e : Ends) (keep gone : ℕ) → (keep ≡ gone → ⊥) → List·Memᴰ keep vs → Joins e gone keep
+    → sum vs es (e ∷ []) ≡ sum (without gone vs) (map (moved keep gone) es) []
+contraction vs es e keep gone differ ink j = contracted vs keep gone differ ink es (e ∷ []) [] (contracts vs keep gone differ ink e j)
 
 -- the same links with other weights: each sound weight is the larger share of its total on the right
 abbrev pub Raised : Weighted → Weighted → Type 0

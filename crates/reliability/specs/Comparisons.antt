@@ -1,11 +1,14 @@
 -- Importance of a link and difference of two networks.
-use Prim.Native.Nat.{ℕ, _+_, _-_}
+use Prim.Native.Nat.{ℕ, _+_, _-_, _*_, _^_}
 use mathlib.Core.Bool.{Bool, true, false, _&&_}
+use lib.ListN.{length}
 use lib.IntN.{ℤ, pos, _-ℤ_}
-use Rattle.rounding.specs.declared.Direction.{Direction}
+use Rattle.rounding.specs.Rounding.{S}
+use Rattle.rounding.specs.declared.Direction.the-variants.{Down}
 use Rattle.reliability.specs.declared.Figure.{Figure}
 use Rattle.reliability.specs.declared.Difference.{Difference}
 use Rattle.reliability.specs.Networks.{Network, linkAt}
+use Rattle.reliability.specs.Exact.{exact}
 use Rattle.reliability.specs.Rule.{isLoop, deleted, contracted, figure}
 
 -- the network with link i broken: deletion
@@ -23,9 +26,17 @@ lessened s b = record { low = s .low - b .high; high = s .high - b .low; steps =
 abbrev pub importance : Network → ℕ → ℕ → Figure
 importance g i limit = lessened (figure (soundAt i g) limit) (figure (brokenAt i g) limit)
 
+-- the exact importance of link i, over S to the power m - 1
+abbrev pub exactImportance : Network → ℕ → ℕ
+exactImportance g i = exact Down (soundAt i g) - exact Down (brokenAt i g)
+
 -- plan A minus plan B
 abbrev pub minus : Figure → Figure → Difference
 minus f h = record { low = pos (f .low) -ℤ pos (h .high); high = pos (f .high) -ℤ pos (h .low); steps = f .steps + h .steps; finished = f .finished && h .finished }
 
 abbrev pub difference : Network → Network → ℕ → Difference
 difference g h limit = minus (figure g limit) (figure h limit)
+
+-- the exact difference, over S to the power of both networks' links together
+abbrev pub exactDifference : Network → Network → ℤ
+exactDifference g h = pos (exact Down g * S ^ length (h .links)) -ℤ pos (exact Down h * S ^ length (g .links))

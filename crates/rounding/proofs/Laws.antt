@@ -101,7 +101,7 @@ module _ (x : ℕ) {y : ℕ} (pos : 0 < y) where
       let above = nearest Up (x / y + 1) x pos .1 (record { order = omega (arith, one-more (x / y) y, lt-div-mul-add {a = x} pos) }) in
       omega arith
 
-sub-mul : (a b y : ℕ) → (a - b) * y ≡ a * y - b * y
+pub sub-mul : (a b y : ℕ) → (a - b) * y ≡ a * y - b * y
 sub-mul a b y = mul-comm (a - b) y ∙ mul-sub y a b ∙ simp mul-comm
 
 -- the larger share of the larger weighs more
