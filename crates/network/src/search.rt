@@ -1,0 +1,135 @@
+// The searches over the links in use, by place.
+ghost use mathlib.Core.Path.{_≡_};
+ghost use Prim.Native.Nat.{_^_, _<_};
+ghost use Rattle.bits.specs.Members.{members};
+ghost use Rattle.reliability.specs.Networks.{connected};
+ghost use Rattle.network.specs.Places.{pick, nodesIn, joints, marked, touching, Incidence, Bounded, Ended};
+
+pub enum Found {
+    At(usize),
+    Nothing,
+}
+
+pub enum Pair {
+    Both(usize, usize),
+    Neither,
+}
+
+// The first link that joins a node to itself.
+pub fn first_loop<'r>(alive: u64, a: &'r [u8; 64], b: &'r [u8; 64]) -> Found {
+    let mut t = alive;
+    while t != 0 {
+        let k = bits::lowest(t);
+        if a[k] == b[k] {
+            return Found::At(k);
+        }
+        t = bits::without_lowest(t);
+    }
+    Found::Nothing
+}
+
+// The places of the links at each node.
+pub fn incidence<'r>(alive: u64, a: &'r [u8; 64], b: &'r [u8; 64]) -> [u64; 32]
+    requires { ⌜ Bounded alive (now a) (now b) ⌝ }
+    ensures { λ r. ⌜ Incidence r alive (now (a .entry)) (now (b .entry)) ⌝ }
+{
+    let mut at = [0u64; 32];
+    let mut t = alive;
+    while t != 0 {
+        let k = bits::lowest(t);
+        t = bits::without_lowest(t);
+        let x = a[k] as usize;
+        let y = b[k] as usize;
+        let sx = bits::with(at[x], k);
+        at[x] = sx;
+        let sy = bits::with(at[y], k);
+        at[y] = sy;
+    }
+    at
+}
+
+// The ends of the links s, as a set of nodes.
+fn ends_of<'r>(s: u64, a: &'r [u8; 64], b: &'r [u8; 64]) -> u64 {
+    let mut ends = 0;
+    let mut t = s;
+    while t != 0 {
+        let k = bits::lowest(t);
+        t = bits::without_lowest(t);
+        ends = bits::with(bits::with(ends, a[k] as usize), b[k] as usize);
+    }
+    ends
+}
+
+// The nodes that the lowest one is connected to.
+pub fn reached<'r>(nodes: u64, at: &'r [u64; 32], a: &'r [u8; 64], b: &'r [u8; 64]) -> u64 {
+    let mut seen = bits::with(0, bits::lowest(nodes));
+    let mut todo = seen;
+    while todo != 0 {
+        let v = bits::lowest(todo);
+        let near = ends_of(at[v], a, b);
+        let fresh = bits::difference(near, seen);
+        seen = bits::union(seen, fresh);
+        todo = bits::union(bits::without_lowest(todo), fresh);
+    }
+    seen
+}
+
+// Whether the links in use connect the nodes.
+pub fn connects<'r>(
+    nodes: u64,
+    alive: u64,
+    at: &'r [u64; 32],
+    a: &'r [u8; 64],
+    b: &'r [u8; 64],
+) -> bool
+    requires { ⌜ (0 < nodes) × (nodes < 2 ^ 32) × Incidence (now at) alive (now a) (now b) × Ended nodes alive (now a) (now b) ⌝ }
+    ensures { λ r. ⌜ r ≡ connected (nodesIn nodes) (pick (members alive) (joints (now (a .entry)) (now (b .entry)))) ⌝ }
+{
+    reached(nodes, at, a, b) == nodes
+}
+
+// The first link with a partner, and its earliest partner.
+pub fn first_pair<'r>(alive: u64, at: &'r [u64; 32], a: &'r [u8; 64], b: &'r [u8; 64]) -> Pair {
+    let mut t = alive;
+    while t != 0 {
+        let i = bits::lowest(t);
+        t = bits::without_lowest(t);
+        let partners = bits::meet(bits::meet(at[a[i] as usize], at[b[i] as usize]), t);
+        if partners != 0 {
+            return Pair::Both(i, bits::lowest(partners));
+        }
+    }
+    Pair::Neither
+}
+
+fn is_one(s: u64) -> bool {
+    s != 0 && bits::without_lowest(s) == 0
+}
+
+fn is_two(s: u64) -> bool {
+    s != 0 && is_one(bits::without_lowest(s))
+}
+
+pub fn lowest_with_one(nodes: u64, at: &[u64; 32]) -> Found {
+    let mut t = nodes;
+    while t != 0 {
+        let v = bits::lowest(t);
+        if is_one(at[v]) {
+            return Found::At(v);
+        }
+        t = bits::without_lowest(t);
+    }
+    Found::Nothing
+}
+
+pub fn lowest_with_two(nodes: u64, at: &[u64; 32]) -> Found {
+    let mut t = nodes;
+    while t != 0 {
+        let v = bits::lowest(t);
+        if is_two(at[v]) {
+            return Found::At(v);
+        }
+        t = bits::without_lowest(t);
+    }
+    Found::Nothing
+}
