@@ -1,5 +1,5 @@
 -- Laws of lists of places.
-use Prim.Native.Nat.{ℕ, zero, suc, _<_}
+use Prim.Native.Nat.{ℕ, zero, suc, _≤_, _<_}
 use mathlib.Core.Path.{_≡_, refl, sym, ap}
 use mathlib.Core.List.{List, [], _∷_, zipWith}
 use mathlib.Core.Bool.{Bool, true, false, true≢false}
@@ -27,6 +27,11 @@ count-cleared (true ∷ bs) zero h = refl
 count-cleared (false ∷ bs) zero h = absurd (true≢false (sym h))
 count-cleared (true ∷ bs) (suc i) h = ap suc (count-cleared bs i h)
 count-cleared (false ∷ bs) (suc i) h = count-cleared bs i h
+
+pub count-le : (bs : List Bool) → howMany bs ≤ length bs
+count-le [] = omega arith
+count-le (true ∷ bs) = omega (arith, count-le bs)
+count-le (false ∷ bs) = omega (arith, count-le bs)
 
 -- an operation on two sets, at a place
 pub getD-zipWith : (g : Bool → Bool → Bool) → g false false ≡ false → (bs cs : List Bool) → length bs ≡ length cs

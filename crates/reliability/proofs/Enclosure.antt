@@ -19,20 +19,16 @@ use Rattle.reliability.specs.declared.Step.{Step}
 use Rattle.reliability.specs.declared.Step.the-variants.{OneNode, Disconnected, Loop, Parallel, End, Series, Split}
 use Rattle.reliability.specs.Networks.{Network, Valid, value, linkAt}
 use Rattle.reliability.specs.Exact.{weighted, exact}
-use Rattle.reliability.specs.Rule.{bounded, side, unfinished, blend, next, leaves, Remainder, settled, rest, scaled, branches, worked, figureOf, without}
+use Rattle.reliability.specs.Rule.{bounded, side, unfinished, blend, next, leaves, Remainder, settled, rest, scaled, branches, worked, figureOf, without, budget}
 use Rattle.reliability.proofs.States.{sum-total}
 use Rattle.reliability.proofs.Steps.{Fits, fits, Sized, Left, left, none-left}
 use Rattle.reliability.proofs.Counts.{side-bounded}
 use Rattle.reliability.proofs.Within.{Within, equal, rounded, weaken, trans, plus, by, same}
 use Rattle.reliability.proofs.Reductions.{Reduces, reduces, total-is}
 
--- what the error budget counts: links and twice the nodes
-abbrev pub budget : ℕ → Network → ℕ
-budget m g = m + 2 * length (g .nodes)
-
 -- a figure x of a network g of m links, worked to its end or not
 abbrev pub Encloses : Direction → ℕ → Bool → ℕ → Network → Type 0
-Encloses d m done x g = Within d done (budget m g * S ^ m) (x * S ^ m) (S * exact d g)
+Encloses d m done x g = Within d done (budget m (length (g .nodes)) * S ^ m) (x * S ^ m) (S * exact d g)
 
 -- one power more
 scale : (m x : ℕ) → x * S ^ suc m ≡ S * (x * S ^ m)
@@ -114,7 +110,7 @@ module _ (d : Direction) (m : ℕ) (work : Network → ℕ → Figure) (works : 
   at-rest h s n r =
       let done = work h limit .finished in
       let step = by d S (weaken d done (le-of-eq (ap (λ k. S ^ k) (s .size))) (λ t. refl) r) in
-      weaken d done (le-trans (omega arith) (spend m (budget m h) (budget (suc m) g) 1 (omega arith))) (λ t. t)
+      weaken d done (le-trans (omega arith) (spend m (budget m (length (h .nodes))) (budget (suc m) (length (g .nodes))) 1 (omega arith))) (λ t. t)
       (same d (sym (scale m (side d (work h limit)))) refl (trans d (by d S (works h limit s)) step))
 
   at-scaled : (k : Direction → ℕ) (h : Network) → Sized m h → k d ≤ S → length (g .links) ≡ suc m → length (h .nodes) < length (g .nodes)
@@ -127,7 +123,7 @@ module _ (d : Direction) (m : ℕ) (work : Network → ℕ → Figure) (works : 
       let second = by d (k d) (works h limit s) in
       let third = weaken d done (le-of-eq (ap (λ n. 2 * n) (ap (λ n. S ^ n) size ∙ pow-succ' S m))) (λ t. refl) r in
       weaken d done
-      (le-trans (omega (arith, mul-le-mul-right (budget m h * P) kd, mul-comm P S)) (spend m (budget m h) (budget (suc m) g) 3 (omega arith))) (λ t. t)
+      (le-trans (omega (arith, mul-le-mul-right (budget m (length (h .nodes)) * P) kd, mul-comm P S)) (spend m (budget m (length (h .nodes))) (budget (suc m) (length (g .nodes))) 3 (omega arith))) (λ t. t)
       (same d (reverse P (product d (k d) x) S ∙ sym (scale m (product d (k d) x)) ∙ ap (λ y. y * S ^ suc m) (sym (side-bounded d (λ c. product c (k c) (side c (work h limit))) (work h limit .steps) done))) refl
       (trans d (trans d first (same d (outward (k d) x P) (mul-left-comm (k d) S (exact d h)) second)) third))
 
@@ -148,17 +144,17 @@ module _ (d : Direction) (m : ℕ) (work : Network → ℕ → Figure) (works : 
       let p = value d e in
       let x = side d s in
       let y = side d t in
-      let c = m + 2 * length (g .nodes) in
+      let c = budget m (length (g .nodes)) in
       let first = weaken d done (le-of-eq refl) (λ t. refl) (by d P (rounded d (split-rounds d p x y))) in
       let soundly = weaken d done (mul-le-mul-left p (mul-le-mul-right P (nodes (n .0)))) (λ both. and-eq-true-iff (s .finished) (t .finished) .0 both .0) (by d p (works sound l hs)) in
       let brokenly = weaken d done (mul-le-mul-left (S - p) (mul-le-mul-right P (nodes (n .1)))) (λ both. and-eq-true-iff (s .finished) (t .finished) .0 both .1) (by d (S - p) (works broken (l - s .steps) hb)) in
       weaken d done
-      (le-trans (omega (arith, portions p (c * P) pe, mul-comm P S)) (spend m c (budget (suc m) g) 1 (omega arith))) (λ t. t)
+      (le-trans (omega (arith, portions p (c * P) pe, mul-comm P S)) (spend m c (budget (suc m) (length (g .nodes))) 1 (omega arith))) (λ t. t)
       (same d (reverse P (split d p x y) S ∙ sym (scale m (split d p x y)) ∙ ap (λ y. y * S ^ suc m) (sym (side-bounded d (λ c. split c (value c e) (side c s) (side c t)) (suc (s .steps + t .steps)) done)))
       (ap (λ k. S * k) (sym r))
       (trans d first (same d (gather p x (S - p) y P) (gather′ p (exact d sound) (S - p) (exact d broken)) (plus d soundly brokenly))))
     where
-      nodes : {k : ℕ} → k ≤ length (g .nodes) → m + 2 * k ≤ m + 2 * length (g .nodes)
+      nodes : {k : ℕ} → k ≤ length (g .nodes) → budget m k ≤ budget m (length (g .nodes))
       nodes h = omega arith
 
 -- one step, whichever it is

@@ -49,6 +49,10 @@ half = 500000000
 pub complete : List Link
 complete = link 0 1 half ∷ link 0 2 half ∷ link 0 3 half ∷ link 1 2 half ∷ link 1 3 half ∷ link 2 3 half ∷ []
 
+-- the same with node 3 at the end of zero-valued links alone
+pub worthless : List Link
+worthless = link 0 1 half ∷ link 0 2 half ∷ link 0 3 0 ∷ link 1 2 half ∷ link 1 3 0 ∷ link 2 3 0 ∷ []
+
 pub row : List ℕ → List Link → ℕ → ℕ → ℕ → ℕ → Bool → ℕ → Row
 row n l limit low high steps finished exactly =
     record { nodes = n; links = l; limit = limit; low = low; high = high; steps = steps; finished = finished; exactly = exactly }
@@ -66,8 +70,9 @@ rows =
     ∷ row (0 ∷ 1 ∷ 2 ∷ 3 ∷ 4 ∷ []) (link 0 3 950000000 ∷ link 0 1 910000000 ∷ link 1 2 980000000 ∷ link 0 2 880000000 ∷ link 1 4 910000000 ∷ []) 20000 851905963 851905965 0 true 851905964  -- P9
     ∷ row (0 ∷ 1 ∷ 2 ∷ 3 ∷ []) complete 1 593749999 593750001 1 true 593750000  -- P10, 38 of 64 states
     ∷ row (0 ∷ 1 ∷ 2 ∷ 3 ∷ []) complete 0 0 S 0 false 593750000  -- P11
+    ∷ row (0 ∷ 1 ∷ 2 ∷ 3 ∷ []) worthless 20000 0 0 1 true 0  -- zero-valued links count in step 3: one split
     ∷ []
 
 pub examples : every right rows ≡ true
-unfolding right same rows row link triangle half complete figureOf worked leaves next without deleteAt lowest firstPair places firstAt exact sum connected every label merge quotient product parallel either series factor split
+unfolding right same rows row link triangle half complete worthless figureOf worked leaves next without deleteAt lowest firstPair places firstAt exact sum connected every label merge quotient product parallel either series factor split
 examples = refl

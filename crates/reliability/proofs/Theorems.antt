@@ -13,7 +13,7 @@ use Rattle.rounding.specs.declared.Direction.the-variants.{Down, Up}
 use Rattle.reliability.specs.declared.Link.{Link}
 use Rattle.reliability.specs.Networks.{Network, Valid, value, ends}
 use Rattle.reliability.specs.Exact.{Weighted, weighted, sum, total, exact, Enclosed, AllEnclosed, nil, cons, Equal}
-use Rattle.reliability.specs.Rule.{side, figure, needed}
+use Rattle.reliability.specs.Rule.{side, figure, needed, budget}
 use Rattle.reliability.proofs.States.{raised, AllRaised, Raised}
 use Rattle.reliability.proofs.States.AllRaised.{nil as none, cons as more}
 use Rattle.reliability.proofs.Steps.{Sized}
@@ -117,7 +117,7 @@ module _ (g : Network) (valid : Valid g) (limit : ℕ) where
     width done =
         let low = worked Down .close done in
         let high = worked Up .close done in
-        let c = m + 2 * n in
+        let c = budget m n in
         let wide : figure g limit .high ≤ figure g limit .low + (c + c) = le-of-mul-le-mul-right {k = S ^ m}
         (omega (arith, ap (λ k. S * k) (equal-sums g equal), add-mul (figure g limit .low) (c + c) (S ^ m), add-mul c c (S ^ m))) (power-pos m) in
         omega arith

@@ -1,5 +1,5 @@
 -- The rule of work, steps 1 to 7.
-use Prim.Native.Nat.{ℕ, zero, suc, _+_, _-_, min, max}
+use Prim.Native.Nat.{ℕ, zero, suc, _+_, _-_, _*_, min, max}
 use mathlib.Core.List.{List, [], _∷_, map}
 use mathlib.Core.Bool.{Bool, true, false, cond, _&&_, _||_, not}
 use mathlib.Core.Option.{Option, some, none, Option·map}
@@ -206,3 +206,7 @@ neededOf (suc m) g = counted (neededOf m) (leaves g (next g))
 
 abbrev pub needed : Network → ℕ
 needed g = neededOf (length (g .links)) g
+
+-- the units by which each figure of a finished pair may be off, for m links and n nodes: the pair is at most 2m + 4n wide
+abbrev pub budget : ℕ → ℕ → ℕ
+budget m n = m + 2 * n
