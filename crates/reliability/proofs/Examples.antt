@@ -1,4 +1,4 @@
--- The plans of the paper that are marked P, as rows of one table, computed from the definitions.
+-- The plans that the paper marks P, and some more, as rows of one table: one proof computes them all from the definitions.
 use Prim.Native.Nat.{ℕ, _+_, _*_, _^_}
 use mathlib.Core.Path.{_≡_, refl}
 use mathlib.Core.List.{List, [], _∷_, map}
@@ -46,12 +46,13 @@ triangle p = link 0 1 p ∷ link 1 2 p ∷ link 0 2 p ∷ []
 pub half : ℕ
 half = 500000000
 
-pub complete : List Link
-complete = link 0 1 half ∷ link 0 2 half ∷ link 0 3 half ∷ link 1 2 half ∷ link 1 3 half ∷ link 2 3 half ∷ []
+-- four nodes, all joined: links 01, 02, 03, 12, 13, 23
+pub four : ℕ → ℕ → ℕ → ℕ → ℕ → ℕ → List Link
+four p q r s t u = link 0 1 p ∷ link 0 2 q ∷ link 0 3 r ∷ link 1 2 s ∷ link 1 3 t ∷ link 2 3 u ∷ []
 
--- the same with node 3 at the end of zero-valued links alone
-pub worthless : List Link
-worthless = link 0 1 half ∷ link 0 2 half ∷ link 0 3 0 ∷ link 1 2 half ∷ link 1 3 0 ∷ link 2 3 0 ∷ []
+-- five nodes, all joined
+pub five : ℕ → List Link
+five p = link 0 1 p ∷ link 0 2 p ∷ link 0 3 p ∷ link 0 4 p ∷ link 1 2 p ∷ link 1 3 p ∷ link 1 4 p ∷ link 2 3 p ∷ link 2 4 p ∷ link 3 4 p ∷ []
 
 pub row : List ℕ → List Link → ℕ → ℕ → ℕ → ℕ → Bool → ℕ → Row
 row n l limit low high steps finished exactly =
@@ -68,11 +69,14 @@ rows =
     ∷ row (0 ∷ 1 ∷ 2 ∷ []) (triangle 0) 20000 0 0 0 true 0  -- P7
     ∷ row (0 ∷ 1 ∷ 2 ∷ []) (triangle S) 20000 S S 0 true S  -- P8
     ∷ row (0 ∷ 1 ∷ 2 ∷ 3 ∷ 4 ∷ []) (link 0 3 950000000 ∷ link 0 1 910000000 ∷ link 1 2 980000000 ∷ link 0 2 880000000 ∷ link 1 4 910000000 ∷ []) 20000 851905963 851905965 0 true 851905964  -- P9
-    ∷ row (0 ∷ 1 ∷ 2 ∷ 3 ∷ []) complete 1 593749999 593750001 1 true 593750000  -- P10, 38 of 64 states
-    ∷ row (0 ∷ 1 ∷ 2 ∷ 3 ∷ []) complete 0 0 S 0 false 593750000  -- P11
-    ∷ row (0 ∷ 1 ∷ 2 ∷ 3 ∷ []) worthless 20000 0 0 1 true 0  -- zero-valued links count in step 3: one split
+    ∷ row (0 ∷ 1 ∷ 2 ∷ 3 ∷ []) (four half half half half half half) 1 593749999 593750001 1 true 593750000  -- P10, 38 of 64 states
+    ∷ row (0 ∷ 1 ∷ 2 ∷ 3 ∷ []) (four half half half half half half) 0 0 S 0 false 593750000  -- P11
+    ∷ row (0 ∷ 1 ∷ 2 ∷ 3 ∷ []) (four half half 0 half 0 0) 20000 0 0 1 true 0  -- zero-valued links count in step 3: one split
+    ∷ row (0 ∷ 1 ∷ 2 ∷ 3 ∷ []) (four 900000000 800000000 700000000 600000000 500000000 400000000) 1 841759999 841760001 1 true 841760000
+    ∷ row (0 ∷ 1 ∷ 2 ∷ 3 ∷ 4 ∷ []) (five half) 5 710937499 710937502 5 true 710937500  -- the limit is the splits needed
+    ∷ row (0 ∷ 1 ∷ 2 ∷ 3 ∷ 4 ∷ []) (five half) 4 589843749 777343751 4 false 710937500
     ∷ []
 
 pub examples : every right rows ≡ true
-unfolding right same rows row link triangle half complete worthless figureOf worked leaves next without deleteAt lowest firstPair places firstAt exact sum connected every label merge quotient product parallel either series factor split
+unfolding right same rows row link triangle half four five figureOf worked leaves next without deleteAt lowest firstPair places firstAt exact sum connected every label merge quotient product parallel either series factor split
 examples = refl

@@ -1,4 +1,3 @@
-pub mod Examples
 pub mod Lists
 pub mod Connection
 pub mod Searches
@@ -12,3 +11,4 @@ pub mod Enclosure
 pub mod Theorems
 pub mod Signed
 pub mod Comparisons
+pub mod Examples
