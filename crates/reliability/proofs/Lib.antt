@@ -12,3 +12,4 @@ pub mod Theorems
 pub mod Signed
 pub mod Comparisons
 pub mod Examples
+pub mod Unrolled
