@@ -1,5 +1,5 @@
 -- Long division by decimal digits: after k digits, 10 ^ k * x is quotient * w + remainder.
-use Prim.Native.Nat.{ℕ, suc, _+_, _-_, _*_, _/_, _%_, _^_, _≤_, _<_}
+use Prim.Native.Nat.{ℕ, _+_, _-_, _*_, _/_, _%_, _^_, _≤_, _<_}
 use mathlib.Core.Path.{_≡_, sym, ap, _∙_}
 use native.Mathlib.Nat.{add-mul, mul-assoc, mul-comm, mul-le-mul-left, le-trans, le-of-eq, le-add-right, le-of-mul-le-mul-right, pow-le-pow-right, pow-suc, div-add-mod'}
 use native.Mathlib.Numerals.{add-one}

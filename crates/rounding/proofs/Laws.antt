@@ -1,6 +1,6 @@
 -- What rounding down and up mean, once for both directions and any divisor.
-use Prim.Native.Nat.{ℕ, suc, _+_, _-_, _*_, _/_, _%_, _≤_, _<_}
-use mathlib.Core.Path.{_≡_, refl, sym, ap, _∙_}
+use Prim.Native.Nat.{ℕ, _+_, _-_, _*_, _/_, _%_, _≤_, _<_}
+use mathlib.Core.Path.{_≡_, sym, ap, _∙_}
 use mathlib.Core.Logic.{_↔_}
 use native.Mathlib.Nat.{add-assoc, add-comm, add-left-comm, add-mul, mul-add, mul-assoc, mul-left-comm, one-mul, mul-comm, div-zero, mul-right-comm, mul-sub, mul-le-mul-left, mul-le-mul-right, le-trans, le-refl, le-antisymm, le-div-iff-mul-le, div-lt-iff-lt-mul, div-mul-le-self, lt-div-mul-add, le-of-mul-le-mul-right, lt-of-mul-lt-mul-right, div-add-mod'}
 use native.Mathlib.Omega.{arith}

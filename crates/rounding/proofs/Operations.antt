@@ -1,13 +1,12 @@
 -- Each operation's laws: rounded from its exact quotient, monotone in each argument, at most S.
 use Prim.Native.Nat.{ℕ, _+_, _-_, _*_, _/_, _≤_, _<_, zero-le}
-use mathlib.Core.Path.{_≡_, refl, sym, ap, _∙_, subst}
-use native.Mathlib.Nat.{div-le-of-le-mul, add-mul, mul-comm, mul-assoc, mul-left-comm, mul-le-mul, mul-le-mul-left, mul-le-mul-right, le-trans, le-refl, le-of-eq, add-sub-of-le, add-le-add}
+use mathlib.Core.Path.{_≡_, sym, ap, _∙_, subst}
+use native.Mathlib.Nat.{div-le-of-le-mul, add-mul, mul-comm, mul-assoc, mul-le-mul, mul-le-mul-left, mul-le-mul-right, le-trans, le-of-eq, add-sub-of-le, add-le-add}
 use native.Mathlib.Omega.{arith}
 use native.Mathlib.Decide.{decLt}
 use lib.Dec.{lit<}
 use Rattle.rounding.specs.declared.Direction.{Direction}
-use Rattle.rounding.specs.declared.Direction.the-variants.{Down, Up}
-use Rattle.rounding.specs.Rounding.{S, quotient, opposite, product, parallel, either, series, factor, split}
+use Rattle.rounding.specs.Rounding.{S, quotient, product, parallel, either, series, factor, split}
 use Rattle.rounding.proofs.Laws.{Rounds, rounds, monotone, over-zero, of-multiple, complement, rearranged, ring}
 
 unit : 0 < S
@@ -80,6 +79,11 @@ factor-zero d p q h = ap (λ k. quotient d k S) h ∙ of-multiple d 0 unit
 pub factor-range : (d : Direction) (p q : ℕ) → p ≤ S → q ≤ S → factor d p q ≤ S
 unfolding factor
 factor-range d p q hp hq = range d (either p q) (either-range p q hp hq)
+
+-- the factor is 0 where W is
+pub factor-zero : (d : Direction) (p q : ℕ) → either p q ≡ 0 → factor d p q ≡ 0
+unfolding factor
+factor-zero d p q h = rw h (of-multiple d 0 unit)
 
 -- ---- parallel: both are W / S, so the factor's laws are the parallel value's
 pub parallel-is-factor : (d : Direction) (p q : ℕ) → p ≤ S → q ≤ S → parallel d p q ≡ factor d p q

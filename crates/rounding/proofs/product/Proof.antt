@@ -1,4 +1,3 @@
-use mathlib.Core.Path.{_∙_, ap}
 use native.Mathlib.Nat.{mul-le-mul}
 use native.Mathlib.Omega.{arith}
 use Rattle.rounding.specs.Rounding.{product}

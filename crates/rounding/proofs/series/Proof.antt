@@ -21,11 +21,11 @@ mul-rounded-division c = omega (arith, mul-le-mul (c .before .before .pre .0) (c
 
 rounded-division-requires : tie.Need-rounded-division-requires
 rounded-division-requires c κs =
-    let a = c .before .before in (
-      omega (arith, c .if1 .left),
-      omega (arith, c .before .either .ensures, both-within (a .args .p) (a .args .q) (a .pre .0) (a .pre .1)),
-      omega (arith, c .before .either .ensures, either-range (a .args .p) (a .args .q) (a .pre .0) (a .pre .1)),
-    )
+    let a = c .before .before in
+    let total = c .before .either .ensures in
+    let within = both-within (a .args .p) (a .args .q) (a .pre .0) (a .pre .1) in
+    let range = either-range (a .args .p) (a .args .q) (a .pre .0) (a .pre .1) in
+    (omega (arith, c .if1 .left), omega arith, omega arith)
 
 returns-2 : tie.Need-returns-2
 unfolding series

@@ -1,0 +1,6 @@
+//! An independent implementation of what the calculator works out, and the calculator's own libraries beside it.
+//! The tests compare the two. Nothing here is generated from the Rattle sources or shares code with them.
+
+pub mod arithmetic;
+pub mod library;
+pub mod random;

@@ -1,0 +1,151 @@
+//! Every operation of `rounding` against the independent one: all edge arguments, and a million random ones.
+
+use outside::arithmetic::{self, Side, S, SIDES};
+use outside::library;
+use outside::random::Random;
+
+const EDGES: [u32; 9] = [0, 1, 2, S / 2, S - 2, S - 1, S, S + 1, u32::MAX];
+const SQUARE: u64 = S as u64 * S as u64;
+
+/// What the library should answer: `worked` where each value is a chance, and a refusal where one is not.
+fn expected<T>(values: &[u32], refusal: T, worked: impl FnOnce() -> T) -> T {
+    if values.iter().all(|v| *v <= S) {
+        worked()
+    } else {
+        refusal
+    }
+}
+
+type Operation = fn(Side, u32, u32) -> u32;
+
+const OPERATIONS: [(&str, Operation, Operation); 4] = [
+    ("product", library::product, arithmetic::product),
+    ("parallel", library::parallel, arithmetic::parallel),
+    ("series", library::series, arithmetic::series),
+    ("factor", library::factor, arithmetic::factor),
+];
+
+fn compare(p: u32, q: u32, r: u32) {
+    let w = expected(&[p, q], u64::MAX, || arithmetic::either(p, q));
+    assert_eq!(library::either(p, q), w, "either {p} {q}");
+    for side in SIDES {
+        for (name, ours, theirs) in OPERATIONS {
+            let value = expected(&[p, q], u32::MAX, || theirs(side, p, q));
+            assert_eq!(ours(side, p, q), value, "{name} {side:?} {p} {q}");
+        }
+        let value = expected(&[p, q, r], u32::MAX, || arithmetic::split(side, p, q, r));
+        assert_eq!(
+            library::split(side, p, q, r),
+            value,
+            "split {side:?} {p} {q} {r}"
+        );
+    }
+}
+
+fn compare_division(x: u64, w: u64) {
+    let within = 0 < w && x <= w && w <= SQUARE;
+    let value = if within {
+        arithmetic::long_division(x, w)
+    } else {
+        (u64::MAX, u64::MAX)
+    };
+    assert_eq!(library::long_division(x, w), value, "long division {x} {w}");
+}
+
+#[test]
+fn all_edges() {
+    for p in EDGES {
+        for q in EDGES {
+            for r in EDGES {
+                compare(p, q, r);
+            }
+        }
+    }
+}
+
+#[test]
+fn a_million_random_arguments() {
+    let mut random = Random::new(1);
+    let most = u64::from(S);
+    for _ in 0..500_000 {
+        let mut even = || random.up_to(most) as u32;
+        compare(even(), even(), even());
+        let mut skewed = || random.of_any_size(most) as u32;
+        let (p, q, r) = (skewed(), skewed(), skewed());
+        compare(p, q, r);
+        compare(S - p, q, S - r);
+    }
+}
+
+#[test]
+fn arguments_out_of_range_are_refused() {
+    let mut random = Random::new(2);
+    for _ in 0..100_000 {
+        let mut any = || random.next() as u32;
+        compare(any(), any(), any());
+    }
+}
+
+/// W is 0 only where both values are 0, and p * q is W only where both are S or both are 0.
+#[test]
+fn zero_and_whole_series() {
+    assert_eq!(library::either(0, 0), 0);
+    assert_eq!(library::either(S, S), SQUARE);
+    for side in SIDES {
+        assert_eq!(library::series(side, 0, 0), 0);
+        assert_eq!(library::factor(side, 0, 0), 0);
+        assert_eq!(library::series(side, S, S), S);
+        assert_eq!(library::factor(side, S, S), S);
+    }
+}
+
+/// The triangle of halves, by series, parallel and factor: its figures are written in the request (plan P6).
+#[test]
+fn triangle_of_halves() {
+    let half = S / 2;
+    let figure = |side| {
+        let rest = library::parallel(side, library::series(side, half, half), half);
+        library::product(side, library::factor(side, half, half), rest)
+    };
+    assert_eq!(SIDES.map(figure), [499_999_999, 500_000_001]);
+}
+
+#[test]
+fn division_at_its_edges() {
+    let unit = u64::from(S);
+    let edges = [
+        0,
+        1,
+        2,
+        9,
+        10,
+        11,
+        unit - 1,
+        unit,
+        unit + 1,
+        SQUARE / 10,
+        SQUARE - 1,
+        SQUARE,
+        SQUARE + 1,
+        u64::MAX,
+    ];
+    for x in edges {
+        for w in edges {
+            compare_division(x, w);
+        }
+    }
+}
+
+#[test]
+fn a_million_random_divisions() {
+    let mut random = Random::new(3);
+    for _ in 0..500_000 {
+        let w = random.up_to(SQUARE - 1) + 1;
+        let x = random.up_to(w);
+        compare_division(x, w);
+        let w = random.of_any_size(SQUARE - 1) + 1;
+        let x = random.of_any_size(w);
+        compare_division(x, w);
+        compare_division(w - x, w);
+    }
+}
