@@ -71,11 +71,6 @@ pub factor-monotone : (d : Direction) {p p′ q q′ : ℕ} → p ≤ p′ → p
 unfolding factor
 factor-monotone d h hp k hq = larger d (either-monotone h hp k hq)
 
--- the factor is 0 where W is
-pub factor-zero : (d : Direction) (p q : ℕ) → either p q ≡ 0 → factor d p q ≡ 0
-unfolding factor
-factor-zero d p q h = ap (λ k. quotient d k S) h ∙ of-multiple d 0 unit
-
 pub factor-range : (d : Direction) (p q : ℕ) → p ≤ S → q ≤ S → factor d p q ≤ S
 unfolding factor
 factor-range d p q hp hq = range d (either p q) (either-range p q hp hq)
