@@ -8,7 +8,8 @@ use rounding::Direction;
 ghost use mathlib.Core.Path.{_≡_};
 ghost use Prim.Native.Nat.{_+_, _^_, _≤_, _<_};
 ghost use Rattle.rounding.specs.Rounding.{S, factor};
-ghost use Rattle.reliability.specs.Networks.{Valid, Proper, value};
+ghost use Rattle.reliability.specs.Networks.{Valid, value};
+ghost use Rattle.reliability.specs.Exact.{Equal};
 ghost use Rattle.reliability.specs.Rule.{times, blend, figure};
 ghost use Rattle.reliability.specs.Comparisons.{lessened, minus, importance, difference};
 ghost use Rattle.network.specs.Places.{networkOf, indexOf, Used};
@@ -101,4 +102,65 @@ pub fn work(net: Network, limit: u64) -> Figure
             blend(e, sound, broken)
         }
     }
+}
+
+// Sound minus broken, the low no lower than 0.
+fn lessened(s: Figure, b: Figure) -> Figure
+    requires { ⌜ (b .low ≤ s .high) × (s .steps + b .steps < 2 ^ 32) ⌝ }
+    ensures { λ r. ⌜ r ≡ lessened s b ⌝ }
+{
+    let mut low = 0;
+    if b.high < s.low {
+        low = s.low - b.high;
+    }
+    let high = s.high - b.low;
+    let steps = s.steps + b.steps;
+    let finished = s.finished && b.finished;
+    Figure {
+        low,
+        high,
+        steps,
+        finished,
+    }
+}
+
+// The importance of the link at place i. A loop's sound and broken networks are both the network without it.
+pub fn importance(net: Network, i: usize, limit: u64) -> Figure
+    requires { ⌜ Valid (networkOf net) × Equal (networkOf net) × Used net i × (limit < 2 ^ 31) ⌝ }
+    ensures { λ r. ⌜ r ≡ importance (networkOf net) (indexOf net i) limit ⌝ }
+{
+    let e = net.link(i);
+    let broken = work(net.deleted(i), limit);
+    if e.a == e.b {
+        return lessened(broken, broken);
+    }
+    let sound = work(net.contracted(i), limit);
+    lessened(sound, broken)
+}
+
+// One figure minus another, signed.
+fn minus(f: Figure, g: Figure) -> Difference
+    requires { ⌜ (f .low ≤ S) × (f .high ≤ S) × (g .low ≤ S) × (g .high ≤ S) × (f .steps + g .steps < 2 ^ 32) ⌝ }
+    ensures { λ r. ⌜ r ≡ minus f g ⌝ }
+{
+    let low = (f.low as i32) - (g.high as i32);
+    let high = (f.high as i32) - (g.low as i32);
+    let steps = f.steps + g.steps;
+    let finished = f.finished && g.finished;
+    Difference {
+        low,
+        high,
+        steps,
+        finished,
+    }
+}
+
+// The difference of two networks: the first minus the second.
+pub fn difference(first: Network, second: Network, limit: u64) -> Difference
+    requires { ⌜ Valid (networkOf first) × Valid (networkOf second) × (limit < 2 ^ 31) ⌝ }
+    ensures { λ r. ⌜ r ≡ difference (networkOf first) (networkOf second) limit ⌝ }
+{
+    let f = work(first, limit);
+    let g = work(second, limit);
+    minus(f, g)
 }
