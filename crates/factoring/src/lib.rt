@@ -6,7 +6,9 @@ use reliability::Link;
 use reliability::Step;
 use rounding::Direction;
 ghost use mathlib.Core.Path.{_≡_};
-ghost use Prim.Native.Nat.{_+_, _^_, _≤_, _<_};
+ghost use mathlib.Core.Bool.{_&&_};
+ghost use Prim.Native.Nat.{_+_, _-_, _^_, _≤_, _<_};
+ghost use lib.IntN.{pos, _-ℤ_};
 ghost use Rattle.rounding.specs.Rounding.{S, factor};
 ghost use Rattle.reliability.specs.Networks.{Valid, value};
 ghost use Rattle.reliability.specs.Exact.{Equal};
@@ -14,6 +16,26 @@ ghost use Rattle.reliability.specs.Rule.{times, blend, figure};
 ghost use Rattle.reliability.specs.Comparisons.{lessened, minus, importance, difference};
 ghost use Rattle.network.specs.Places.{networkOf, indexOf, Used};
 ghost use Rattle.factoring.specs.Sides.{sides};
+
+fn both(a: bool, b: bool) -> bool
+    ensures { λ r. ⌜ r ≡ (a && b) ⌝ }
+{
+    a && b
+}
+
+// x - y, or 0 where y is the larger.
+fn excess(x: u32, y: u32) -> u32
+    ensures { λ r. ⌜ r ≡ x - y ⌝ }
+{
+    if y < x { x - y } else { 0 }
+}
+
+fn signed_difference(x: u32, y: u32) -> i32
+    requires { ⌜ (x ≤ S) × (y ≤ S) ⌝ }
+    ensures { λ r. ⌜ r ≡ pos x -ℤ pos y ⌝ }
+{
+    (x as i32) - (y as i32)
+}
 
 // The figure f multiplied by a factor for each side.
 fn times(low: u32, high: u32, f: Figure) -> Figure
@@ -48,7 +70,7 @@ fn blend(e: Link, s: Figure, t: Figure) -> Figure
     let low = rounding::split(Direction::Down, e.low, s.low, t.low);
     let high = rounding::split(Direction::Up, e.high, s.high, t.high);
     let steps = s.steps + t.steps + 1;
-    let finished = s.finished && t.finished;
+    let finished = both(s.finished, t.finished);
     Figure {
         low,
         high,
@@ -109,13 +131,10 @@ fn lessened(s: Figure, b: Figure) -> Figure
     requires { ⌜ (b .low ≤ s .high) × (s .steps + b .steps < 2 ^ 32) ⌝ }
     ensures { λ r. ⌜ r ≡ lessened s b ⌝ }
 {
-    let mut low = 0;
-    if b.high < s.low {
-        low = s.low - b.high;
-    }
+    let low = excess(s.low, b.high);
     let high = s.high - b.low;
     let steps = s.steps + b.steps;
-    let finished = s.finished && b.finished;
+    let finished = both(s.finished, b.finished);
     Figure {
         low,
         high,
@@ -143,10 +162,10 @@ fn minus(f: Figure, g: Figure) -> Difference
     requires { ⌜ (f .low ≤ S) × (f .high ≤ S) × (g .low ≤ S) × (g .high ≤ S) × (f .steps + g .steps < 2 ^ 32) ⌝ }
     ensures { λ r. ⌜ r ≡ minus f g ⌝ }
 {
-    let low = (f.low as i32) - (g.high as i32);
-    let high = (f.high as i32) - (g.low as i32);
+    let low = signed_difference(f.low, g.high);
+    let high = signed_difference(f.high, g.low);
     let steps = f.steps + g.steps;
-    let finished = f.finished && g.finished;
+    let finished = both(f.finished, g.finished);
     Difference {
         low,
         high,
