@@ -27,10 +27,10 @@ use Rattle.reliability.proofs.Signed.{minus-order, minus-mul, minus-add
 use Rattle.reliability.proofs.Theorems.{steps-taken, finished-when, nesting, high-range, enclosure-of-equal, low-high, width, power-pos}
 
 -- a valid network of m links whose values are equal
-record Plain (m : ℕ) (g : Network) : Type 0 where
-  valid : Valid g
-  equal : Equal g
-  size : length (g .links) ≡ m
+pub record Plain (m : ℕ) (g : Network) : Type 0 where
+  pub valid : Valid g
+  pub equal : Equal g
+  pub size : length (g .links) ≡ m
 
 bracket : {m : ℕ} (g : Network) → Plain m g → (limit : ℕ) → (figure g limit .low * S ^ m ≤ S * exact Down g) × (S * exact Down g ≤ figure g limit .high * S ^ m)
 bracket g p limit =
@@ -47,7 +47,7 @@ module _ (g : Network) (valid : Valid g) (equal : Equal g) (i : ℕ) (place : i 
   less : length (deleteAt i (g .links)) ≡ length (g .links) - 1
   less = let l = length-delete {i = i} (g .links) place in omega arith
 
-  broken-plain : Plain (length (g .links) - 1) (brokenAt i g)
+  pub broken-plain : Plain (length (g .links) - 1) (brokenAt i g)
   broken-plain = record { valid = deleted-valid g valid i; equal = λ f m. equal f (mem-delete i (g .links) m); size = less }
 
   contracted-plain : (e .a ≡ e .b → ⊥) → Plain (length (g .links) - 1) (contracted e (deleted i g))
@@ -59,7 +59,7 @@ module _ (g : Network) (valid : Valid g) (equal : Equal g) (i : ℕ) (place : i 
     size = length-map (deleteAt i (g .links)) (renamed (min (e .a) (e .b)) (max (e .a) (e .b))) ∙ less;
   }
 
-  sound-plain : Plain (length (g .links) - 1) (soundAt i g)
+  pub sound-plain : Plain (length (g .links) - 1) (soundAt i g)
   unfolding soundAt
   sound-plain = go (isLoop e) refl
     where
