@@ -36,14 +36,22 @@ withDifference d b = answered (twos (d .low)) (twos (d .high)) (d .steps) (d .fi
 -- ---- refusals
 
 -- limit above 1,000,000, then answer buffer under 16 bytes
-unfoldable pub asked : ℕ → List ℕ → Verdict
-asked limit b = cond (leb limit 1000000) (cond (leb 16 (length b)) Accepted (Refused Buffer)) (Refused Limit)
+unfoldable pub asked : ℕ → ℕ → Verdict
+asked limit room = cond (leb limit 1000000) (cond (leb 16 room) Accepted (Refused Buffer)) (Refused Limit)
 
 -- link place m or above
 unfoldable pub placed : List ℕ → ℕ → Verdict
 placed plan place = cond (ltb place (sizeM plan)) Accepted (Refused Place)
 
 -- ---- outcomes
+
+-- the causes of a figure, in order
+abbrev pub figureVerdict : List ℕ → ℕ → ℕ → Verdict
+figureVerdict plan limit room = also (asked limit room) (verdict plan)
+
+-- and of an importance
+abbrev pub importanceVerdict : List ℕ → ℕ → ℕ → ℕ → Verdict
+importanceVerdict plan place limit room = also (figureVerdict plan limit room) (placed plan place)
 
 -- what a call returns, and the answer buffer at its end
 pub record Outcome : Type 0 where
@@ -68,16 +76,16 @@ checkOutcome plan = returned (verdict plan)
 
 unfoldable pub figureOutcome : List ℕ → ℕ → List ℕ → Outcome
 figureOutcome plan limit b =
-    unless (also (asked limit b) (verdict plan)) b
+    unless (figureVerdict plan limit (length b)) b
     (accepted (withFigure (figure (planOf plan) limit) b))
 
 unfoldable pub importanceOutcome : List ℕ → ℕ → ℕ → List ℕ → Outcome
 importanceOutcome plan place limit b =
-    unless (also (asked limit b) (also (verdict plan) (placed plan place))) b
+    unless (importanceVerdict plan place limit (length b)) b
     (accepted (withFigure (importance (planOf plan) place limit) b))
 
 unfoldable pub differenceOutcome : List ℕ → List ℕ → ℕ → List ℕ → Outcome
 differenceOutcome first second limit b =
-    unless (also (asked limit b) (verdict first)) b
+    unless (figureVerdict first limit (length b)) b
     (unlessSecond (verdict second) b
     (accepted (withDifference (difference (planOf first) (planOf second) limit) b)))
