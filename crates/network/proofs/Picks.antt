@@ -3,7 +3,7 @@ use Prim.Native.Nat.{ℕ, zero, suc, _+_, _-_, _/_, _%_, _^_, _≤_, _<_, suc-le
 use mathlib.Core.Path.{_≡_, refl, sym, ap, ap₂, subst, _∙_}
 use mathlib.Core.List.{List, [], _∷_, _++_, map, List·Memᴰ, List·Memᴰ·head, List·Memᴰ·tail}
 use mathlib.Core.Bool.{Bool, true, false, true≢false}
-use native.Mathlib.Nat.{not-suc-le-zero, le-of-suc-le-suc, pow-suc}
+use native.Mathlib.Nat.{lt-of-le-of-lt, not-suc-le-zero, le-of-suc-le-suc, pow-suc}
 use native.Mathlib.Numerals.{add-one}
 use native.Mathlib.Omega.{arith}
 use borrow.Author.Tests.{eq-eqb, ne-eqb}
@@ -14,6 +14,7 @@ use lib.Pow.{pow-mono}
 use Rattle.bits.specs.Members.{digits, members, bitOf, below}
 use Rattle.bits.proofs.Digits.{length-digits, digits-injective, lowest-digit, digitOf}
 use Rattle.bits.proofs.Operations.{digits-full}
+use Rattle.rounding.specs.Rounding.{S}
 use Rattle.rounding.specs.declared.Direction.{Direction}
 use Rattle.reliability.specs.declared.Link.{Link}
 use Rattle.reliability.specs.Networks.{Proper, Valid, linkAt, value}
@@ -171,15 +172,22 @@ module _ (n : Network) (sized : Sized n) where
       subst (Proper (nodesOf n)) (link-at i u)
       (proper-at (networkOf n) valid (indexOf n i) (rank-within i (members (n .alive)) (allRows n) (u .used) (omega (arith, u .below, length-all))))
 
+  pub values-within : Valid (networkOf n) → (i j : ℕ) → Used n i → Used n j → (d : Direction) → (value d (rowAt n i) ≤ S) × (value d (rowAt n j) ≤ S)
+  values-within valid i j u w d = (proper-row valid i u .range d, proper-row valid j w .range d)
+
 module _ (n : Network) (s j : ℕ) (xs : List Link) (u : Used n j) (cleared : members s ≡ set (members (n .alive)) j false) where
-  -- a place cleared
+  -- place j cleared
   pub deleted-links : pick (members s) xs ≡ deleteAt (indexOf n j) (pick (members (n .alive)) xs)
   deleted-links = ap (λ bs. pick bs xs) cleared ∙ pick-cleared j (members (n .alive)) xs (u .used)
 
-  -- and another written
-  pub joined-links : (i : ℕ) (e : Link) → Used n i → xs ≡ set (allRows n) i e → pick (members s) xs ≡ deleteAt (indexOf n j) (set (linksOf n) (indexOf n i) e)
-  joined-links i e w written =
-      deleted-links ∙ ap (deleteAt (indexOf n j)) (ap (pick (members (n .alive))) written ∙ pick-set i (members (n .alive)) (allRows n) e (w .used))
+  -- and place i written: the link there is one made of the two
+  pub joined-links : Sized n → (i : ℕ) (e : Link) (g : Link → Link → Link) → Used n i → xs ≡ set (allRows n) i e → e ≡ g (rowAt n i) (rowAt n j)
+      → pick (members s) xs ≡ deleteAt (indexOf n j) (set (linksOf n) (indexOf n i) (g (linkAt (networkOf n) (indexOf n i)) (linkAt (networkOf n) (indexOf n j))))
+  joined-links sized i e g w written made =
+      let two = ap₂ g (sym (link-at n sized i w)) (sym (link-at n sized j u)) in
+      deleted-links
+      ∙ ap (deleteAt (indexOf n j))
+      (ap (pick (members (n .alive))) written ∙ pick-set i (members (n .alive)) (allRows n) e (w .used) ∙ ap (set (linksOf n) (indexOf n i)) (made ∙ two))
 
 -- ---- the nodes
 
@@ -214,7 +222,7 @@ pub nodes-cleared : (r s v : ℕ) → members r ≡ set (members s) v false → 
 nodes-cleared r s v e = ap (λ bs. pick bs (from 0 64)) e ∙ pick-without (members s) 0 64 v v (omega arith)
 
 -- to clear a place makes the number no larger
-pub cleared-within : (k r s i : ℕ) → r < 2 ^ k → s < 2 ^ k → digits k r ≡ set (digits k s) i false → r ≤ s
+cleared-within : (k r s i : ℕ) → r < 2 ^ k → s < 2 ^ k → digits k r ≡ set (digits k s) i false → r ≤ s
 unfolding digits
 cleared-within zero r s i hr hs e = omega arith
 cleared-within (suc k) r s zero hr hs e =
@@ -225,6 +233,9 @@ cleared-within (suc k) r s (suc i) hr hs e =
     let bit : bitOf (r % 2) ≡ bitOf (s % 2) = cc in
     let high : digits k (r / 2) ≡ set (digits k (s / 2)) i false = cc in
     omega (arith, lowest-digit r, lowest-digit s, ap digitOf bit, cleared-within k (r / 2) (s / 2) i (omega (arith, pow-suc 2 k)) (omega (arith, pow-suc 2 k)) high)
+
+pub cleared-fits : (r s v : ℕ) → r < 2 ^ 64 → s < 2 ^ 32 → members r ≡ set (members s) v false → r < 2 ^ 32
+cleared-fits r s v hr hs e = lt-of-le-of-lt (cleared-within 64 r s v hr (omega arith) e) hs
 
 -- ---- a network that is being built
 

@@ -1,7 +1,4 @@
-use Prim.Native.Nat.{_^_, _<_}
-use native.Mathlib.Nat.{lt-of-le-of-lt}
-use native.Mathlib.Omega.{arith}
-use Rattle.network.proofs.Picks.{allRows, deleted-links, nodes-cleared, cleared-within}
+use Rattle.network.proofs.Picks.{allRows, deleted-links, nodes-cleared, cleared-fits}
 use borrow.Author.Needs.{needs}
 use Rattle.network.proofs.Network.end.Statement.{statement}
 use Rattle.network.proofs.Network.end.Tie as tie
@@ -15,9 +12,7 @@ without-requires c κs = search needs
 cast-nodes : tie.Need-cast-nodes
 cast-nodes c =
     let s = c .before .before in
-    let hr : c .without .result < 2 ^ 64 = search needs in
-    let hs : s .args .self .nodes < 2 ^ 32 = search needs in
-    record { fits = lt-of-le-of-lt (cleared-within 64 (c .without .result) (s .args .self .nodes) (s .args .v) hr (omega arith) (c .without .ensures)) hs }
+    record { fits = cleared-fits (c .without .result) (s .args .self .nodes) (s .args .v) (search needs) (search needs) (c .without .ensures) }
 
 without-requires-2 : tie.Need-without-requires-2
 without-requires-2 c κs = search needs
