@@ -10,9 +10,9 @@ use borrow.Author.Tests.{eq-eqb, ne-eqb}
 use lib.Dec.{eqb}
 use lib.ListN.{length, getD, set, take, replicate, length-append, length-replicate, getD-replicate, List·getD-append}
 use lib.Seq.{set-getD, take-suc-set, length-take-le}
-use lib.Pow.{pow-mono}
+use lib.Pow.{pow-pos, pow-mono}
 use Rattle.bits.specs.Members.{digits, members, bitOf, below}
-use Rattle.bits.proofs.Digits.{length-digits, digits-injective, lowest-digit, digitOf}
+use Rattle.bits.proofs.Digits.{length-digits, digits-zero, digits-injective, lowest-digit, digitOf}
 use Rattle.bits.proofs.Operations.{digits-full}
 use Rattle.rounding.specs.Rounding.{S}
 use Rattle.rounding.specs.declared.Direction.{Direction}
@@ -79,6 +79,9 @@ module _ {A : Type 0} where
   pick-first zero (suc k) (x ∷ xs) = pick-first zero k xs
   pick-first (suc n) k [] = refl
   pick-first (suc n) k (x ∷ xs) = ap {B = List A} (λ r. x ∷ r) (pick-first n k xs)
+
+pub pick-none : {A : Type 0} (xs : List A) → pick (members 0) xs ≡ []
+pick-none xs = ap (λ bs. pick bs xs) (digits-zero 64) ∙ pick-first 0 64 xs
 
 pub pick-map : {A B : Type 0} (f : A → B) (bs : List Bool) (xs : List A) → pick bs (map f xs) ≡ map f (pick bs xs)
 unfolding pick
@@ -237,6 +240,11 @@ cleared-within (suc k) r s (suc i) hr hs e =
 pub cleared-fits : (r s v : ℕ) → r < 2 ^ 64 → s < 2 ^ 32 → members r ≡ set (members s) v false → r < 2 ^ 32
 cleared-fits r s v hr hs e = lt-of-le-of-lt (cleared-within 64 r s v hr (omega arith) e) hs
 
+pub full-fits : (r n : ℕ) → r < 2 ^ 64 → n ≤ 32 → members r ≡ below n → r < 2 ^ 32
+full-fits r n hr h e =
+    let same : r ≡ 2 ^ n - 1 = digits-injective 64 r (2 ^ n - 1) hr (omega (arith, pow-mono h, pow-pos n)) (e ∙ sym (digits-full 64 n (omega arith))) in
+    omega (arith, pow-mono h, pow-pos n)
+
 -- ---- a network that is being built
 
 below-more : (k m : ℕ) → set (replicate k true ++ replicate (suc m) false) k true ≡ replicate (suc k) true ++ replicate m false
@@ -273,3 +281,16 @@ module _ (n : Network) (k : ℕ) (built : Built n k) where
 
   pub built-length : Sized n → length (linksOf n) ≡ k
   built-length sized = ap length built-links ∙ length-take-le k (allRows n) (omega (arith, built-most, length-all n sized))
+
+-- one link more, at place k
+module _ (n r : Network) (k : ℕ) (built : Built n k) (free : k < 64) (more : members (r .alive) ≡ set (members (n .alive)) k true) where
+  pub built-more : Built r (k + 1)
+  unfolding Built
+  built-more =
+      let left : 64 - k ≡ suc (64 - suc k) = omega arith in
+      rw add-one (more ∙ ap (λ bs. set bs k true) (built ∙ ap (λ j. replicate k true ++ replicate j false) left) ∙ below-more k (64 - suc k))
+
+  pub built-appended : Sized n → (e : Link) → allRows r ≡ set (allRows n) k e → linksOf r ≡ linksOf n ++ (e ∷ [])
+  built-appended sized e written =
+      built-links r (k + 1) built-more
+      ∙ rw (written, add-one, take-suc-set (allRows n) k e (omega (arith, length-all n sized)), built-links n k built)

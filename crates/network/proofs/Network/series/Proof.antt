@@ -1,11 +1,22 @@
+use Prim.Native.Nat.{_≤_}
+use mathlib.Core.Path.{_≡_}
+use lib.ListN.{set}
+use Rattle.rounding.specs.Rounding.{S}
+use Rattle.rounding.specs.declared.Direction.{Direction}
+use Rattle.rounding.specs.declared.Direction.the-variants.{Down, Up}
+use Rattle.reliability.specs.Networks.{value}
+use Rattle.reliability.specs.Rule.{inSeries}
+use Rattle.network.specs.Places.{rows}
+use Rattle.network.proofs.Picks.{Sized, row, rowAt, rows-set, values-within, joined-links, nodes-cleared, cleared-fits}
 use borrow.Author.Needs.{needs}
 use Rattle.network.proofs.Network.series.Statement.{statement}
 use Rattle.network.proofs.Network.series.Tie as tie
-use Rattle.network.proofs.Network.series.Reads as reads
-use Rattle.network.proofs.Network.series.Lts as lts
-use Rattle.bits.proofs.without.Reads as without-reads
-use Rattle.network.proofs.across.Reads as across-reads
-use Rattle.rounding.proofs.series.Reads as series-reads
+
+sized : (c : tie.Start) → Sized (c .args .t1)
+sized c = search needs
+
+within : (c : tie.Start) (d : Direction) → (value d (rowAt (c .args .t1) (c .args .i)) ≤ S) × (value d (rowAt (c .args .t1) (c .args .j)) ≤ S)
+within c = values-within (c .args .t1) (sized c) (c .pre .0) (c .args .i) (c .args .j) (c .pre .2) (c .pre .3)
 
 mul-series : tie.Need-mul-series
 mul-series c = search needs
@@ -20,7 +31,7 @@ element-copy-out-series-2 : tie.Need-element-copy-out-series-2
 element-copy-out-series-2 c = search needs
 
 series-requires : tie.Need-series-requires
-series-requires c κs = ?
+series-requires c κs = within (c .before .before) Down
 
 mul-series-3 : tie.Need-mul-series-3
 mul-series-3 c = search needs
@@ -35,7 +46,7 @@ element-copy-out-series-4 : tie.Need-element-copy-out-series-4
 element-copy-out-series-4 c = search needs
 
 series-requires-2 : tie.Need-series-requires-2
-series-requires-2 c κs = ?
+series-requires-2 c κs = within (c .before .before .before .before .before) Up
 
 cast-across : tie.Need-cast-across
 cast-across c = search needs
@@ -86,13 +97,31 @@ without-requires : tie.Need-without-requires
 without-requires c κs = search needs
 
 cast-nodes : tie.Need-cast-nodes
-cast-nodes c = ?
+cast-nodes c =
+    let s = c .before .before .before .before .before .before .before .before .before .before .before .before .before in
+    record { fits = cleared-fits (c .without .result) (s .args .t1 .nodes) (s .args .v) (search needs) (search needs) (c .without .ensures) }
 
 without-requires-2 : tie.Need-without-requires-2
 without-requires-2 c κs = search needs
 
 returns : tie.Need-returns
-returns c = ?
+returns c =
+    let gone = c .before .without in
+    let b = c .before .before .across2 in
+    let a = c .before .before .before .before .before .across in
+    let high = c .before .before .before .before .before .before .before .before .series2 in
+    let low = c .before .before .before .before .before .before .before .before .before .before .before .series in
+    let s = c .before .before .before .before .before .before .before .before .before .before .before .before .before .before in
+    let n = s .args .t1 in
+    let i = s .args .i in
+    let j = s .args .j in
+    let e = row (a .result) (b .result) (low .result) (high .result) in
+    let made : e ≡ inSeries (s .args .v) (rowAt n i) (rowAt n j) = λ t. row (a .ensures t) (b .ensures t) (low .ensures t) (high .ensures t) in
+    let xs = rows (set (n .a) i (a .result)) (set (n .b) i (b .result)) (set (n .low) i (low .result)) (set (n .high) i (high .result)) in
+    let written = rows-set i e (n .a) (n .b) (n .low) (n .high) in
+    let nodes = nodes-cleared (gone .result) (n .nodes) (s .args .v) (gone .ensures) in
+    let links = joined-links n (c .without2 .result) j xs (s .pre .3) (c .without2 .ensures) (sized s) i e (inSeries (s .args .v)) (s .pre .2) written made in
+    λ t. record { nodes = nodes t; links = links t }
 
 pub series-spec : {M : Type 1} → statement M
 series-spec =
