@@ -3,10 +3,13 @@ use mathlib.Core.List.{map}
 use Rattle.bits.specs.Members.{members}
 use Rattle.reliability.specs.Rule.{rename, renamed}
 use Rattle.network.specs.Places.{pick, rows}
-use Rattle.network.proofs.Picks.{allRows, rows-map, pick-map, deleted-links, nodes-cleared, cleared-fits}
+use Rattle.network.proofs.Picks.{Sized, all-even, allRows, rows-map, pick-map, deleted-links, nodes-cleared, cleared-fits}
 use borrow.Author.Needs.{needs}
 use Rattle.network.proofs.Network.merged.Statement.{statement}
 use Rattle.network.proofs.Network.merged.Tie as tie
+
+sized : (c : tie.Start) → Sized (c .args .self)
+sized c = search needs
 
 all-renamed-requires : tie.Need-all-renamed-requires
 all-renamed-requires c κs = search needs
@@ -35,7 +38,7 @@ returns c =
     let f = rename (s .args .keep) (s .args .gone) in
     let g = renamed (s .args .keep) (s .args .gone) in
     let ends = ap₂ (λ as₁ bs. rows as₁ bs (n .low) (n .high)) (c .before .before .before .before .all-renamed .ensures) (c .before .before .before .all-renamed2 .ensures)
-    ∙ rows-map f (n .a) (n .b) (n .low) (n .high) in (
+    ∙ rows-map (all-even n (sized s)) f in (
       nodes-cleared (c .before .without .result) (n .nodes) (s .args .gone) (c .before .without .ensures),
       ap (pick (members (c .without2 .result))) ends
           ∙ pick-map g (members (c .without2 .result)) (allRows n)

@@ -7,7 +7,7 @@ use Rattle.rounding.specs.declared.Direction.the-variants.{Down, Up}
 use Rattle.reliability.specs.Networks.{value}
 use Rattle.reliability.specs.Rule.{inSeries}
 use Rattle.network.specs.Places.{rows}
-use Rattle.network.proofs.Picks.{Sized, row, rowAt, rows-set, values-within, joined-links, nodes-cleared, cleared-fits}
+use Rattle.network.proofs.Picks.{Sized, all-even, row, rowAt, rows-set, values-within, joined-links, nodes-cleared, cleared-fits}
 use borrow.Author.Needs.{needs}
 use Rattle.network.proofs.Network.series.Statement.{statement}
 use Rattle.network.proofs.Network.series.Tie as tie
@@ -118,7 +118,7 @@ returns c =
     let e = row (a .result) (b .result) (low .result) (high .result) in
     let made : e ≡ inSeries (s .args .v) (rowAt n i) (rowAt n j) = λ t. row (a .ensures t) (b .ensures t) (low .ensures t) (high .ensures t) in
     let xs = rows (set (n .a) i (a .result)) (set (n .b) i (b .result)) (set (n .low) i (low .result)) (set (n .high) i (high .result)) in
-    let written = rows-set i e (n .a) (n .b) (n .low) (n .high) in
+    let written = rows-set (all-even n (sized s)) i e in
     let nodes = nodes-cleared (gone .result) (n .nodes) (s .args .v) (gone .ensures) in
     let links = joined-links n (c .without2 .result) j xs (s .pre .3) (c .without2 .ensures) (sized s) i e (inSeries (s .args .v)) (s .pre .2) written made in
     λ t. record { nodes = nodes t; links = links t }
