@@ -12,7 +12,7 @@ without-requires c κs = search needs
 returns : tie.Need-returns
 returns c =
     let s = c .before .before in
-    let links = deleted-links (s .args .self) (c .without .result) (s .args .i) (allRows (s .args .self)) (s .pre .1) (c .without .ensures) in
+    let links = deleted-links (s .args .self) _ (s .args .i) (allRows (s .args .self)) (s .pre .1) (c .without .ensures) in
     λ t. record { nodes = c .before .without-node .ensures t; links = links t }
 
 pub end-spec : {M : Type 1} → statement M

@@ -34,7 +34,7 @@ returns c =
       c .before .without-node .ensures,
       ap (pick (members (c .without .result))) ends
           ∙ pick-map g (members (c .without .result)) (allRows n)
-          ∙ ap (map g) (deleted-links n (c .without .result) (s .args .i) (allRows n) (s .pre .0) (c .without .ensures)),
+          ∙ ap (map g) (deleted-links n _ (s .args .i) (allRows n) (s .pre .0) (c .without .ensures)),
     )
 
 pub merged-spec : {M : Type 1} → statement M

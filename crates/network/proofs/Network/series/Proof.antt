@@ -1,12 +1,10 @@
 use Prim.Native.Nat.{_≤_}
 use mathlib.Core.Path.{_≡_}
-use lib.ListN.{set}
 use Rattle.rounding.specs.Rounding.{S}
 use Rattle.rounding.specs.declared.Direction.{Direction}
 use Rattle.rounding.specs.declared.Direction.the-variants.{Down, Up}
 use Rattle.reliability.specs.Networks.{value}
 use Rattle.reliability.specs.Rule.{inSeries}
-use Rattle.network.specs.Places.{rows}
 use Rattle.network.proofs.Picks.{Sized, all-even, row, rowAt, rows-set, values-within, joined-links}
 use borrow.Author.Needs.{needs}
 use Rattle.network.proofs.Network.series.Statement.{statement}
@@ -108,9 +106,8 @@ returns c =
     let j = s .args .j in
     let e = row (a .result) (b .result) (low .result) (high .result) in
     let made : e ≡ inSeries (s .args .v) (rowAt n i) (rowAt n j) = λ t. row (a .ensures t) (b .ensures t) (low .ensures t) (high .ensures t) in
-    let xs = rows (set (n .a) i (a .result)) (set (n .b) i (b .result)) (set (n .low) i (low .result)) (set (n .high) i (high .result)) in
     let written = rows-set (all-even n (sized s)) i e in
-    let links = joined-links n (c .without .result) j xs (s .pre .3) (c .without .ensures) (sized s) i e (inSeries (s .args .v)) (s .pre .2) written made in
+    let links = joined-links n _ j _ (s .pre .3) (c .without .ensures) (sized s) i e (inSeries (s .args .v)) (s .pre .2) written made in
     λ t. record { nodes = c .before .without-node .ensures t; links = links t }
 
 pub series-spec : {M : Type 1} → statement M
