@@ -1,8 +1,8 @@
--- Which nodes a node is connected to, found by following each link in use once.
+-- Which nodes a node is connected to, found by following each link in use at most once.
 use Prim.Native.Nat.{ℕ, zero, suc, _+_, _/_, _^_, _≤_, _<_}
 use mathlib.Core.Path.{_≡_, refl, sym, ap, ap₂, subst, _∙_}
 use mathlib.Core.Logic.{_⊎_, inl, inr, ⊎-map, ⊎-elim}
-use mathlib.Core.List.{List, [], _∷_, List·Memᴰ, List·Memᴰ·head, List·Memᴰ·tail, List·Memᴰ·not-nil, Memᴰ·cast}
+use mathlib.Core.List.{List, [], _∷_, zipWith, List·Memᴰ, List·Memᴰ·head, List·Memᴰ·tail, List·Memᴰ·not-nil, Memᴰ·cast}
 use mathlib.Core.Bool.{Bool, true, false, cond, not, _&&_, _||_, true≢false, or-true, or-false, or-assoc, or-comm, and-true, and-eq-true-iff}
 use native.Mathlib.Nat.{pow-suc, add-zero}
 use native.Mathlib.Omega.{arith}
@@ -10,7 +10,7 @@ use lib.Dec.{eqb}
 use borrow.Author.Tests.{eqb-true, eq-eqb}
 use lib.ListN.{length, getD, set}
 use lib.Seq.{getD-set-same, getD-set-other, ext-getD}
-use Rattle.bits.specs.Members.{digits, members, both, either}
+use Rattle.bits.specs.Members.{digits, members}
 use Rattle.bits.proofs.Places.{getD-zipWith}
 use Rattle.bits.proofs.Digits.{digitOf, length-digits, digits-injective}
 use Rattle.reliability.specs.Networks.{Ends, connected, Path, here, forth, back}
@@ -24,12 +24,14 @@ use Rattle.network.specs.Places.{pick, from, nodesIn, joints, marked, to
 abbrev pub has : ℕ → ℕ → Bool
 has s p = getD (members s) p false
 
+-- nothing is in the empty set
 none : (k p : ℕ) → getD (digits k 0) p false ≡ false
 unfolding digits
 none zero p = refl
 none (suc k) zero = refl
 none (suc k) (suc p) = none k p
 
+-- what is in a set below 2 ^ j is below j
 within : (k j n p : ℕ) → n < 2 ^ j → getD (digits k n) p false ≡ true → p < j
 unfolding digits
 within zero j n p h e = absurd (true≢false (sym e))
@@ -45,6 +47,7 @@ has-none p = none 64 p
 pub has-below : (s k p : ℕ) → s < 2 ^ k → has s p ≡ true → p < k
 has-below s k p = within 64 k s p
 
+-- one place put into a set, or taken out
 has-set : (r s i : ℕ) (v : Bool) → members r ≡ set (members s) i v → i < 64 → (p : ℕ) → has r p ≡ cond (eqb p i) v (has s p)
 has-set r s i v e h p =
     ap (λ (bs : List Bool). getD bs p false) e
@@ -69,13 +72,10 @@ has-without r s i e h p = has-set r s i false e h p ∙ go (eqb p i) (has s p)
 same-length : (s t : ℕ) → length (members s) ≡ length (members t)
 same-length s t = length-digits 64 s ∙ sym (length-digits 64 t)
 
-pub has-either : (r s t : ℕ) → members r ≡ either (members s) (members t) → (p : ℕ) → has r p ≡ (has s p || has t p)
-has-either r s t e p =
-    ap (λ (bs : List Bool). getD bs p false) e ∙ getD-zipWith _||_ refl (members s) (members t) (same-length s t) p
-
-pub has-both : (r s t : ℕ) → members r ≡ both (members s) (members t) → (p : ℕ) → has r p ≡ (has s p && has t p)
-has-both r s t e p =
-    ap (λ (bs : List Bool). getD bs p false) e ∙ getD-zipWith _&&_ refl (members s) (members t) (same-length s t) p
+-- an operation on two sets, at a place
+pub has-zip : (g : Bool → Bool → Bool) → g false false ≡ false → (r s t : ℕ) → members r ≡ zipWith g (members s) (members t)
+    → (p : ℕ) → has r p ≡ g (has s p) (has t p)
+has-zip g z r s t e p = ap (λ (bs : List Bool). getD bs p false) e ∙ getD-zipWith g z (members s) (members t) (same-length s t) p
 
 -- a set is known by its members
 pub has-all : (s t : ℕ) → s < 2 ^ 64 → t < 2 ^ 64 → ((p : ℕ) → has s p ≡ has t p) → s ≡ t
@@ -84,6 +84,7 @@ has-all s t hs ht e =
 
 -- ---- the nodes and the links of a network
 
+-- what stands at place p of the numbers from i on is i + p
 mem-from : (bs : List Bool) (i k p : ℕ) → getD bs p false ≡ true → p < k → List·Memᴰ (i + p) (pick bs (from i k))
 unfolding pick from
 mem-from [] i k p e h = absurd (true≢false (sym e))
@@ -101,6 +102,7 @@ from-mem (true ∷ bs) i (suc k) (List·Memᴰ·head e) = (0, refl, omega arith)
 from-mem (true ∷ bs) i (suc k) (List·Memᴰ·tail m) = let r = from-mem bs (suc i) k m in (suc (r .0), r .1, omega (arith, r .2))
 from-mem (false ∷ bs) i (suc k) m = let r = from-mem bs (suc i) k m in (suc (r .0), r .1, omega (arith, r .2))
 
+-- the nodes of a set are its members
 pub has-mem : (s u : ℕ) → has s u ≡ true → u < 64 → List·Memᴰ u (nodesIn s)
 has-mem s u e h = Memᴰ·cast (omega arith) (mem-from (members s) 0 64 u e h)
 
@@ -122,7 +124,7 @@ mem-joint (false ∷ us) (a ∷ as₁) (b ∷ bs) zero e h k = absurd (true≢fa
 mem-joint (true ∷ us) (a ∷ as₁) (b ∷ bs) (suc p) e h k = List·Memᴰ·tail (mem-joint us as₁ bs p e (omega arith) (omega arith))
 mem-joint (false ∷ us) (a ∷ as₁) (b ∷ bs) (suc p) e h k = mem-joint us as₁ bs p e (omega arith) (omega arith)
 
--- a colouring by which no link in use joins two colours
+-- a colouring that gives both ends of each link in use one colour
 const-joints : (χ : ℕ → ℕ) (us : List Bool) (as₁ bs : List ℕ) → ((p : ℕ) → getD us p false ≡ true → χ (getD as₁ p 0) ≡ χ (getD bs p 0)) → Const χ (pick us (joints as₁ bs))
 unfolding pick joints
 const-joints χ [] as₁ bs h = tt

@@ -48,7 +48,7 @@ pub fn incidence<'r>(alive: u64, a: &'r [u8; 64], b: &'r [u8; 64]) -> [u64; 32]
     at
 }
 
-// Whether the links in use connect the nodes: each link is followed once, from the lowest node on.
+// Whether the links in use connect the nodes: from the lowest node on, each link is followed at most once.
 pub fn connects<'r>(
     nodes: u64,
     alive: u64,

@@ -1,6 +1,7 @@
+-- Each turn follows a link that touches a node seen. The measure is the number of links not yet followed.
 use Prim.Native.Nat.{ℕ, _^_, _<_}
-use mathlib.Core.Path.{_≡_, sym, ap, ap₂, _∙_}
-use mathlib.Core.Bool.{Bool, true, _||_, and-eq-true-iff}
+use mathlib.Core.Path.{_≡_, refl, sym, ap, ap₂, _∙_}
+use mathlib.Core.Bool.{Bool, true, _&&_, _||_, and-eq-true-iff}
 use native.Mathlib.Omega.{arith}
 use lib.Dec.{eqb}
 use lib.ListN.{getD}
@@ -8,7 +9,7 @@ use borrow.Author.Needs.{needs}
 use Rattle.bits.specs.Members.{members, howMany}
 use Rattle.bits.proofs.Digits.{lowest-set}
 use Rattle.bits.proofs.Places.{count-cleared}
-use Rattle.network.proofs.Flood.{has, has-none, has-below, has-with, has-without, has-either, has-both, full, at-node, Flood, starts, near-ends, follow, all-seen, cut-off}
+use Rattle.network.proofs.Flood.{has, has-none, has-below, has-with, has-without, has-zip, full, at-node, Flood, starts, near-ends, follow, all-seen, cut-off}
 use Rattle.network.proofs.search.connects.Statement.{statement}
 use Rattle.network.proofs.search.connects.Tie as tie
 
@@ -53,7 +54,7 @@ returns : tie.Need-returns Inv-loop μ-loop
 returns c =
     let s = c .before .before .before in
     cut-off (s .loop .inv .0) (s .loop .inv .1) (omega arith)
-    (λ p. sym (has-both (c .before .meet .result) (s .loop .near) (s .loop .left) (c .before .meet .ensures) p) ∙ ap (λ (t : ℕ). has t p) (c .if1 .taken) ∙ has-none p)
+    (λ p. sym (has-zip _&&_ refl (c .before .meet .result) (s .loop .near) (s .loop .left) (c .before .meet .ensures) p) ∙ ap (λ (t : ℕ). has t p) (c .if1 .taken) ∙ has-none p)
     (c .before .before .loop-test .taken)
 
 lowest-requires-2 : tie.Need-lowest-requires-2 Inv-loop μ-loop
@@ -67,9 +68,10 @@ place c =
     let k = c .lowest2 .result in
     let todo = c .before .before .meet .result in
     let low = lowest-set 64 todo (omega (arith, c .before .if1 .left)) (search needs) in
-    let r = and-eq-true-iff (has (s .near) k) (has (s .left) k) .0 (sym (has-both todo (s .near) (s .left) (c .before .before .meet .ensures) k) ∙ rw (c .lowest2 .ensures) (low .1)) in
+    let r = and-eq-true-iff (has (s .near) k) (has (s .left) k) .0 (sym (has-zip _&&_ refl todo (s .near) (s .left) (c .before .before .meet .ensures) k) ∙ rw (c .lowest2 .ensures) (low .1)) in
     (omega (arith, c .lowest2 .ensures, low .0), r .0, r .1)
 
+-- its ends are below 32
 ends : (c : tie.After-lowest2 Inv-loop μ-loop)
     → (getD (c .before .before .before .before .before .before .before .before .args .a .now) (c .lowest2 .result) 0 < 32)
     × (getD (c .before .before .before .before .before .before .before .before .args .b .now) (c .lowest2 .result) 0 < 32)
@@ -82,31 +84,31 @@ element-copy-out-x : tie.Need-element-copy-out-x Inv-loop μ-loop
 element-copy-out-x c = place c .0
 
 cast-x : tie.Need-cast-x Inv-loop μ-loop
-cast-x c = record { fits = omega (arith, ends (c .before) .0) }
+cast-x c = record { fits = omega (arith, ends (c .before)) }
 
 element-copy-out-y : tie.Need-element-copy-out-y Inv-loop μ-loop
 element-copy-out-y c = place (c .before) .0
 
 cast-y : tie.Need-cast-y Inv-loop μ-loop
-cast-y c = record { fits = omega (arith, ends (c .before .before) .1) }
+cast-y c = record { fits = omega (arith, ends (c .before .before)) }
 
 with-requires-2 : tie.Need-with-requires-2 Inv-loop μ-loop
-with-requires-2 c κs = omega (arith, ends (c .before .before) .0)
+with-requires-2 c κs = omega (arith, ends (c .before .before))
 
 with-requires-3 : tie.Need-with-requires-3 Inv-loop μ-loop
-with-requires-3 c κs = omega (arith, ends (c .before .before .before) .1)
+with-requires-3 c κs = omega (arith, ends (c .before .before .before))
 
 mul-union : tie.Need-mul-union Inv-loop μ-loop
-mul-union c = record { fits = omega (arith, ends (c .before .before .before .before) .0) }
+mul-union c = record { fits = omega (arith, ends (c .before .before .before .before)) }
 
 element-copy-out-union : tie.Need-element-copy-out-union Inv-loop μ-loop
-element-copy-out-union c = ends (c .before .before .before .before) .0
+element-copy-out-union c = omega (arith, ends (c .before .before .before .before))
 
 mul-union-2 : tie.Need-mul-union-2 Inv-loop μ-loop
-mul-union-2 c = record { fits = omega (arith, ends (c .before .before .before .before .before) .1) }
+mul-union-2 c = record { fits = omega (arith, ends (c .before .before .before .before .before)) }
 
 element-copy-out-union-2 : tie.Need-element-copy-out-union-2 Inv-loop μ-loop
-element-copy-out-union-2 c = ends (c .before .before .before .before .before) .1
+element-copy-out-union-2 c = omega (arith, ends (c .before .before .before .before .before))
 
 union-requires : tie.Need-union-requires Inv-loop μ-loop
 union-requires c κs = search needs
@@ -137,8 +139,8 @@ loop-again c =
           has-with (c .before .before .before .before .before .with3 .result) (c .before .before .before .before .before .before .with2 .result) y (c .before .before .before .before .before .with3 .ensures) (omega (arith, ends f .1)) u
           ∙ ap (λ (b : Bool). eqb u y || b) (has-with (c .before .before .before .before .before .before .with2 .result) (s .loop .seen) x (c .before .before .before .before .before .before .with2 .ensures) (omega (arith, ends f .0)) u))
           (λ p.
-          has-either (c .before .union2 .result) (s .loop .near) (c .before .before .union .result) (c .before .union2 .ensures) p
-          ∙ ap (λ (b : Bool). has (s .loop .near) p || b) (has-either (c .before .before .union .result) (getD (g .args .at .now) x 0) (getD (g .args .at .now) y 0) (c .before .before .union .ensures) p
+          has-zip _||_ refl (c .before .union2 .result) (s .loop .near) (c .before .before .union .result) (c .before .union2 .ensures) p
+          ∙ ap (λ (b : Bool). has (s .loop .near) p || b) (has-zip _||_ refl (c .before .before .union .result) (getD (g .args .at .now) x 0) (getD (g .args .at .now) y 0) (c .before .before .union .ensures) p
           ∙ ap₂ _||_ (at x (ends f .0) p) (at y (ends f .1) p)))
           (has-without (c .without .result) (s .loop .left) k (c .without .ensures) (place f .0)),
       search needs,
