@@ -167,10 +167,14 @@ module _ (n : Network) (sized : Sized n) where
   pub link-at : (i : ℕ) → Used n i → linkAt (networkOf n) (indexOf n i) ≡ rowAt n i
   link-at i u = pick-at i (members (n .alive)) (allRows n) (row 0 0 0 0) (u .used) ∙ rows-at all-even i
 
+  -- a place in use is one of the links then left
+  pub index-within : (i : ℕ) → Used n i → indexOf n i < length (linksOf n)
+  index-within i u = rank-within i (members (n .alive)) (allRows n) (u .used) (omega (arith, u .below, length-all))
+
   pub proper-row : Valid (networkOf n) → (i : ℕ) → Used n i → Proper (nodesOf n) (rowAt n i)
   proper-row valid i u =
       subst (Proper (nodesOf n)) (link-at i u)
-      (proper-at (networkOf n) valid (indexOf n i) (rank-within i (members (n .alive)) (allRows n) (u .used) (omega (arith, u .below, length-all))))
+      (proper-at (networkOf n) valid (indexOf n i) (index-within i u))
 
   pub values-within : Valid (networkOf n) → (i j : ℕ) → Used n i → Used n j → (d : Direction) → (value d (rowAt n i) ≤ S) × (value d (rowAt n j) ≤ S)
   values-within valid i j u w d = (proper-row valid i u .range d, proper-row valid j w .range d)
