@@ -89,7 +89,7 @@ fn importance_verdict(plan: &[u8], place: u64, limit: u64, room: usize) -> Verdi
 pub extern "C" fn check(plan: &[u8]) -> u64
     ensures { λ r. ⌜ r ≡ checkOutcome (now (plan .entry)) ⌝ }
 {
-    plan::returned_of(plan::verdict_of(plan))
+    plan::returned(plan::verdict_of(plan))
 }
 
 #[no_mangle]
@@ -99,7 +99,7 @@ pub extern "C" fn figure(plan: &[u8], limit: u64, answer: &mut [u8]) -> u64
 {
     let v = figure_verdict(plan, limit, answer.len());
     if let Verdict::Refused(_) = v {
-        return plan::returned_of(v);
+        return plan::returned(v);
     }
     let f = factoring::work(plan::network_of(plan), limit);
     put_answer(answer, f.low, f.high, f.steps, f.finished);
@@ -113,10 +113,10 @@ pub extern "C" fn importance(plan: &[u8], place: u64, limit: u64, answer: &mut [
 {
     let v = importance_verdict(plan, place, limit, answer.len());
     if let Verdict::Refused(_) = v {
-        return plan::returned_of(v);
+        return plan::returned(v);
     }
-    let f = factoring::importance(plan::network_of(plan), place as usize, limit);
-    put_answer(answer, f.low, f.high, f.steps, f.finished);
+    let gain = factoring::importance(plan::network_of(plan), place as usize, limit);
+    put_answer(answer, gain.low, gain.high, gain.steps, gain.finished);
     0
 }
 
@@ -127,11 +127,11 @@ pub extern "C" fn difference(first: &[u8], second: &[u8], limit: u64, answer: &m
 {
     let v = figure_verdict(first, limit, answer.len());
     if let Verdict::Refused(_) = v {
-        return plan::returned_of(v);
+        return plan::returned(v);
     }
     let w = plan::verdict_of(second);
     if let Verdict::Refused(_) = w {
-        return plan::returned_of(w) + 20;
+        return plan::returned(w) + 20;
     }
     let d = factoring::difference(plan::network_of(first), plan::network_of(second), limit);
     put_answer(answer, bits_of(d.low), bits_of(d.high), d.steps, d.finished);
