@@ -27,9 +27,10 @@ module _ (g : Graph) (k : ℕ) where
     pub subtracts : (b .low ≤ s .high) × (s .steps + b .steps < 2 ^ 32)
     subtracts =
         let x = figure-steps (soundAt k g) limit (sound-plain g valid equal k place .valid) in
-        let y = figure-steps (brokenAt k g) limit (broken-plain g valid equal k place .valid) in
-        (subst₂ (λ (f h : Figure). h .low ≤ f .high) (sym is) (sym ib) (broken-sound g valid equal k place limit),
-        subst₂ (λ (f h : Figure). f .steps + h .steps < 2 ^ 32) (sym is) (sym ib) (omega arith))
+        let y = figure-steps (brokenAt k g) limit (broken-plain g valid equal k place .valid) in (
+          subst₂ (λ (f h : Figure). h .low ≤ f .high) (sym is) (sym ib) (broken-sound g valid equal k place limit),
+          subst₂ (λ (f h : Figure). f .steps + h .steps < 2 ^ 32) (sym is) (sym ib) (omega arith),
+        )
 
     pub importance-is : lessened s b ≡ importance g k limit
     importance-is = ap₂ lessened is ib

@@ -16,11 +16,12 @@ factor-requires-2 c κs = search needs
 
 times-requires : tie.Need-times-requires
 times-requires c κs =
-    let a = c .before .before in
-    (rw (c .before .factor .ensures) (factor-range Down (a .args .e .low) (a .args .k .low) (a .pre .0) (a .pre .2)),
-    rw (c .factor2 .ensures) (factor-range Up (a .args .e .high) (a .args .k .high) (a .pre .1) (a .pre .3)),
-    a .pre .4,
-    a .pre .5)
+    let a = c .before .before in (
+      rw (c .before .factor .ensures) (factor-range Down (a .args .e .low) (a .args .k .low) (a .pre .0) (a .pre .2)),
+      rw (c .factor2 .ensures) (factor-range Up (a .args .e .high) (a .args .k .high) (a .pre .1) (a .pre .3)),
+      a .pre .4,
+      a .pre .5,
+    )
 
 returns : tie.Need-returns
 returns c =
