@@ -1,0 +1,130 @@
+-- The plan file: what its bytes mean, and why one is refused.
+use Prim.Native.Nat.{ℕ, zero, suc, _+_, _-_, _*_}
+use mathlib.Core.List.{List, [], _∷_}
+use mathlib.Core.Bool.{Bool, true, false, _&&_}
+use lib.Dec.{eqb, leb, ltb}
+use lib.ListN.{length, getD}
+use Rattle.rounding.specs.Rounding.{S}
+use Rattle.ratings.specs.Ratings.{T}
+use Rattle.reliability.specs.declared.Link.{Link}
+use Rattle.reliability.specs.Networks.{linked}
+use Rattle.plan.specs.declared.Cause.{Cause}
+use Rattle.plan.specs.declared.Cause.the-variants.{Limit, Buffer, Short, Nodes, Links, Length, End, Value, Place}
+use Rattle.plan.specs.declared.Verdict.{Verdict}
+use Rattle.plan.specs.declared.Verdict.the-variants.{Accepted, Refused}
+use Rattle.plan.specs.declared.Rated.{Rated}
+use Rattle.plan.specs.declared.Rated.the-variants.{Units, Unrated}
+
+-- ---- numbers in the file, little-endian
+
+abbrev pub word16 : List ℕ → ℕ → ℕ
+word16 b i = getD b i 0 + 256 * getD b (i + 1) 0
+
+abbrev pub word32 : List ℕ → ℕ → ℕ
+word32 b i = word16 b i + 65536 * word16 b (i + 2)
+
+-- n and m, the sizes
+abbrev pub sizeN : List ℕ → ℕ
+sizeN b = word16 b 0
+
+abbrev pub sizeM : List ℕ → ℕ
+sizeM b = word16 b 2
+
+-- the two ends of link i, and its value as it stands in the file
+abbrev pub firstEnd : List ℕ → ℕ → ℕ
+firstEnd b i = getD b (4 + 2 * i) 0
+
+abbrev pub secondEnd : List ℕ → ℕ → ℕ
+secondEnd b i = getD b (5 + 2 * i) 0
+
+abbrev pub fileValue : List ℕ → ℕ → ℕ
+fileValue b i = word32 b (4 + 2 * sizeM b + 4 * i)
+
+abbrev pub choose : {A : Type 0} → Bool → A → A → A
+choose true x y = x
+choose false x y = y
+
+-- a value up to S is in units; 2,147,483,648 + k, k up to 511, is a length of k hundred metres and stands for T[k]
+unfoldable pub rated : ℕ → Rated
+rated w = choose (leb w S) (Units w) (choose (leb 2147483648 w && leb w 2147484159) (Units (T (w - 2147483648))) Unrated)
+
+abbrev pub isRated : Rated → Bool
+isRated (Units v) = true
+isRated Unrated = false
+
+abbrev pub unitsOf : Rated → ℕ
+unitsOf (Units v) = v
+unitsOf Unrated = 0
+
+-- ---- the causes of refusal, in the order in which they are tested
+
+-- link i: an end n or above; then a value that stands for none
+unfoldable pub linkVerdict : List ℕ → ℕ → Verdict
+linkVerdict b i =
+    choose (ltb (firstEnd b i) (sizeN b) && ltb (secondEnd b i) (sizeN b))
+    (choose (isRated (rated (fileValue b i))) Accepted (Refused (Value i)))
+    (Refused (End i))
+
+-- the first verdict that is a refusal
+abbrev pub also : Verdict → Verdict → Verdict
+also Accepted v = v
+also (Refused c) v = Refused c
+
+-- the links from i on, k of them, in order
+unfoldable pub linksVerdict : List ℕ → ℕ → ℕ → Verdict
+linksVerdict b i zero = Accepted
+linksVerdict b i (suc k) = also (linkVerdict b i) (linksVerdict b (suc i) k)
+
+-- causes 1 to 6
+unfoldable pub verdict : List ℕ → Verdict
+verdict b =
+    choose (leb 4 (length b))
+    (choose (leb 1 (sizeN b) && leb (sizeN b) 32)
+    (choose (leb (sizeM b) 64)
+    (choose (eqb (length b) (4 + 6 * sizeM b))
+    (linksVerdict b 0 (sizeM b))
+    (Refused Length))
+    (Refused Links))
+    (Refused Nodes))
+    (Refused Short)
+
+-- ---- the paper's numbers
+
+-- the column Number
+unfoldable pub number : Cause → ℕ
+number Short = 1
+number Nodes = 2
+number Links = 3
+number Length = 4
+number (End i) = 5
+number (Value i) = 6
+number Limit = 7
+number Place = 8
+number Buffer = 9
+
+-- the link that a cause names, or 0
+unfoldable pub namedLink : Cause → ℕ
+namedLink Short = 0
+namedLink Nodes = 0
+namedLink Links = 0
+namedLink Length = 0
+namedLink (End i) = i
+namedLink (Value i) = i
+namedLink Limit = 0
+namedLink Place = 0
+namedLink Buffer = 0
+
+-- the column Returned
+unfoldable pub returned : Verdict → ℕ
+returned Accepted = 0
+returned (Refused c) = number c + 256 * namedLink c
+
+-- ---- the network of an accepted plan
+
+abbrev pub linkIn : List ℕ → ℕ → Link
+linkIn b i = linked (firstEnd b i) (secondEnd b i) (λ d. unitsOf (rated (fileValue b i)))
+
+-- the links from i on, k of them
+unfoldable pub linksIn : List ℕ → ℕ → ℕ → List Link
+linksIn b i zero = []
+linksIn b i (suc k) = linkIn b i ∷ linksIn b (suc i) k
