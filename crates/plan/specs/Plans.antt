@@ -1,7 +1,8 @@
 -- The plan file: what its bytes mean, and why one is refused.
-use Prim.Native.Nat.{ℕ, zero, suc, _+_, _-_, _*_}
+use Prim.Native.Nat.{ℕ, zero, suc, _+_, _-_, _*_, _≤_, _<_}
+use mathlib.Core.Path.{_≡_}
 use mathlib.Core.List.{List, [], _∷_}
-use mathlib.Core.Bool.{Bool, true, false, _&&_}
+use mathlib.Core.Bool.{Bool, true, false, not, cond, _&&_, _||_}
 use lib.Dec.{eqb, leb, ltb}
 use lib.ListN.{length, getD}
 use Rattle.rounding.specs.Rounding.{S}
@@ -40,13 +41,11 @@ secondEnd b i = getD b (5 + 2 * i) 0
 abbrev pub fileValue : List ℕ → ℕ → ℕ
 fileValue b i = word32 b (4 + 2 * sizeM b + 4 * i)
 
-abbrev pub choose : {A : Type 0} → Bool → A → A → A
-choose true x y = x
-choose false x y = y
-
 -- a value up to S is in units; 2,147,483,648 + k, k up to 511, is a length of k hundred metres and stands for T[k]
 unfoldable pub rated : ℕ → Rated
-rated w = choose (leb w S) (Units w) (choose (leb 2147483648 w && leb w 2147484159) (Units (T (w - 2147483648))) Unrated)
+rated w =
+    cond (leb w S) (Units w)
+    (cond (leb 2147483648 w && leb (w - 2147483648) 511) (Units (T (w - 2147483648))) Unrated)
 
 abbrev pub isRated : Rated → Bool
 isRated (Units v) = true
@@ -58,12 +57,17 @@ unitsOf Unrated = 0
 
 -- ---- the causes of refusal, in the order in which they are tested
 
--- link i: an end n or above; then a value that stands for none
+-- refused where the cause is met, else as the later causes say
+abbrev pub refusedIf : Bool → Cause → Verdict → Verdict
+refusedIf true c v = Refused c
+refusedIf false c v = v
+
+-- link i: an end n or above; a value that stands for none
 unfoldable pub linkVerdict : List ℕ → ℕ → Verdict
 linkVerdict b i =
-    choose (ltb (firstEnd b i) (sizeN b) && ltb (secondEnd b i) (sizeN b))
-    (choose (isRated (rated (fileValue b i))) Accepted (Refused (Value i)))
-    (Refused (End i))
+    refusedIf (leb (sizeN b) (firstEnd b i) || leb (sizeN b) (secondEnd b i)) (End i)
+    (refusedIf (not (isRated (rated (fileValue b i)))) (Value i)
+    Accepted)
 
 -- the first verdict that is a refusal
 abbrev pub also : Verdict → Verdict → Verdict
@@ -75,23 +79,33 @@ unfoldable pub linksVerdict : List ℕ → ℕ → ℕ → Verdict
 linksVerdict b i zero = Accepted
 linksVerdict b i (suc k) = also (linkVerdict b i) (linksVerdict b (suc i) k)
 
--- causes 1 to 6
+-- causes 1 to 6: under 4 bytes; n is 0 or above 32; m above 64; length not 4 + 6 * m; then the links
 unfoldable pub verdict : List ℕ → Verdict
 verdict b =
-    choose (leb 4 (length b))
-    (choose (leb 1 (sizeN b) && leb (sizeN b) 32)
-    (choose (leb (sizeM b) 64)
-    (choose (eqb (length b) (4 + 6 * sizeM b))
-    (linksVerdict b 0 (sizeM b))
-    (Refused Length))
-    (Refused Links))
-    (Refused Nodes))
-    (Refused Short)
+    refusedIf (ltb (length b) 4) Short
+    (refusedIf (eqb (sizeN b) 0 || ltb 32 (sizeN b)) Nodes
+    (refusedIf (ltb 64 (sizeM b)) Links
+    (refusedIf (not (eqb (length b) (4 + 6 * sizeM b))) Length
+    (linksVerdict b 0 (sizeM b)))))
+
+-- what link i has to be
+pub record WellFormedLink (b : List ℕ) (i : ℕ) : Type 0 where
+  pub first : firstEnd b i < sizeN b
+  pub second : secondEnd b i < sizeN b
+  pub valued : isRated (rated (fileValue b i)) ≡ true
+
+-- what a plan has to be: it is accepted exactly then (accepted-means in proofs/Plans.antt)
+pub record WellFormed (b : List ℕ) : Type 0 where
+  pub some-node : 1 ≤ sizeN b
+  pub nodes : sizeN b ≤ 32
+  pub links : sizeM b ≤ 64
+  pub whole : length b ≡ 4 + 6 * sizeM b
+  pub each : (i : ℕ) → i < sizeM b → WellFormedLink b i
 
 -- ---- the paper's numbers
 
 -- the column Number
-unfoldable pub number : Cause → ℕ
+abbrev pub number : Cause → ℕ
 number Short = 1
 number Nodes = 2
 number Links = 3
@@ -103,7 +117,7 @@ number Place = 8
 number Buffer = 9
 
 -- the link that a cause names, or 0
-unfoldable pub namedLink : Cause → ℕ
+abbrev pub namedLink : Cause → ℕ
 namedLink Short = 0
 namedLink Nodes = 0
 namedLink Links = 0
@@ -115,7 +129,7 @@ namedLink Place = 0
 namedLink Buffer = 0
 
 -- the column Returned
-unfoldable pub returned : Verdict → ℕ
+abbrev pub returned : Verdict → ℕ
 returned Accepted = 0
 returned (Refused c) = number c + 256 * namedLink c
 
