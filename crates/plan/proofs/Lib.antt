@@ -1,1 +1,3 @@
-pub mod Plans
+pub mod Verdicts
+pub mod Links
+pub mod Examples

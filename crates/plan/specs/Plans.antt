@@ -2,7 +2,7 @@
 use Prim.Native.Nat.{ℕ, zero, suc, _+_, _-_, _*_, _≤_, _<_}
 use mathlib.Core.Path.{_≡_}
 use mathlib.Core.List.{List, [], _∷_}
-use mathlib.Core.Bool.{Bool, true, false, not, cond, _&&_, _||_}
+use mathlib.Core.Bool.{Bool, true, false, not, _&&_, _||_}
 use lib.Dec.{eqb, leb, ltb}
 use lib.ListN.{length, getD}
 use Rattle.rounding.specs.Rounding.{S}
@@ -42,10 +42,13 @@ abbrev pub fileValue : List ℕ → ℕ → ℕ
 fileValue b i = word32 b (4 + 2 * sizeM b + 4 * i)
 
 -- a value up to S is in units; 2,147,483,648 + k, k up to 511, is a length of k hundred metres and stands for T[k]
+abbrev pub ratedBy : (inUnits isLength : Bool) → ℕ → Rated
+ratedBy true isLength w = Units w
+ratedBy false true w = Units (T (w - 2147483648))
+ratedBy false false w = Unrated
+
 unfoldable pub rated : ℕ → Rated
-rated w =
-    cond (leb w S) (Units w)
-    (cond (leb 2147483648 w && leb (w - 2147483648) 511) (Units (T (w - 2147483648))) Unrated)
+rated w = ratedBy (leb w S) (leb 2147483648 w && leb (w - 2147483648) 511) w
 
 abbrev pub isRated : Rated → Bool
 isRated (Units v) = true
@@ -94,7 +97,7 @@ pub record WellFormedLink (b : List ℕ) (i : ℕ) : Type 0 where
   pub second : secondEnd b i < sizeN b
   pub valued : isRated (rated (fileValue b i)) ≡ true
 
--- what a plan has to be: it is accepted exactly then (accepted-means in proofs/Plans.antt)
+-- what a plan has to be: it is accepted exactly then (accepted-means in proofs/Verdicts.antt)
 pub record WellFormed (b : List ℕ) : Type 0 where
   pub some-node : 1 ≤ sizeN b
   pub nodes : sizeN b ≤ 32
@@ -135,7 +138,7 @@ returned (Refused c) = number c + 256 * namedLink c
 
 -- ---- the network of an accepted plan
 
-abbrev pub linkIn : List ℕ → ℕ → Link
+unfoldable pub linkIn : List ℕ → ℕ → Link
 linkIn b i = linked (firstEnd b i) (secondEnd b i) (λ d. unitsOf (rated (fileValue b i)))
 
 -- the links from i on, k of them

@@ -1,6 +1,7 @@
 use borrow.Author.Needs.{needs}
 use denote.Ref.{now}
-use Rattle.plan.proofs.Plans.{accepted-means}
+use Rattle.plan.specs.Plans.{linkIn}
+use Rattle.plan.proofs.Verdicts.{accepted-means}
 use Rattle.plan.proofs.link_at.Statement.{statement}
 use Rattle.plan.proofs.link_at.Tie as tie
 
@@ -16,6 +17,7 @@ units-of-requires : tie.Need-units-of-requires
 units-of-requires c κs = search needs
 
 returns : tie.Need-returns
+unfolding linkIn
 returns c = cc
 
 pub link-at-spec : {M : Type 1} → statement M

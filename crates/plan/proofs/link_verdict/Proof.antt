@@ -9,7 +9,7 @@ use Rattle.plan.specs.declared.Rated.{Rated}
 use Rattle.plan.specs.declared.Cause.the-variants.{Value}
 use Rattle.plan.specs.declared.Verdict.the-variants.{Accepted}
 use Rattle.plan.specs.Plans.{rated, isRated, refusedIf, linkVerdict}
-use Rattle.plan.proofs.Plans.{end-refused, by-value}
+use Rattle.plan.proofs.Verdicts.{refused-end, by-value}
 use Rattle.plan.proofs.link_verdict.Statement.{statement}
 use Rattle.plan.proofs.link_verdict.Tie as tie
 
@@ -31,7 +31,7 @@ cast-t10 c = search needs
 returns : tie.Need-returns
 returns c =
     let a = c .before .before .before .before .before .args in
-    sym (end-refused (now (a .plan)) (a .i) (⊎-elim (λ w. inl (omega arith)) (λ w. inr (omega (arith, leb-true))) (c .if1 .came)))
+    sym (refused-end (now (a .plan)) (a .i) (⊎-elim (λ w. inl (omega arith)) (λ w. inr (omega (arith, leb-true))) (c .if1 .came)))
 
 stands-for-requires : tie.Need-stands-for-requires
 stands-for-requires c κs = search needs

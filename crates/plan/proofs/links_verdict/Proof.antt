@@ -5,7 +5,7 @@ use mathlib.Core.Path.{_≡_, sym, _∙_}
 use native.Mathlib.Nat.{sub-zero}
 use borrow.Author.Needs.{needs}
 use Rattle.plan.specs.Plans.{sizeM, linksVerdict}
-use Rattle.plan.proofs.Plans.{in-order, none-left}
+use Rattle.plan.proofs.Verdicts.{in-order, none-left}
 use Rattle.plan.proofs.links_verdict.Statement.{statement}
 use Rattle.plan.proofs.links_verdict.Tie as tie
 

@@ -1,35 +1,29 @@
--- What an accepted plan is, and what its links are.
+-- Verdicts: each row of the table in its order, what an accepted plan is, and the numbers returned.
 use Prim.Native.Nat.{ℕ, zero, suc, _+_, _-_, _*_, _≤_, _<_, zero-le}
 use mathlib.Core.Path.{_≡_, refl, sym, ap, _∙_, subst}
-use mathlib.Core.List.{List, [], _∷_, _++_, List·Memᴰ, List·Memᴰ·head, List·Memᴰ·tail}
+use mathlib.Core.List.{List}
 use mathlib.Core.Bool.{Bool, true, false, not, _||_, or-true, Bool-discrete}
 use mathlib.Core.Logic.{_⊎_, inl, inr, _↔_, by-cases}
 use native.Mathlib.Numerals.{add-one}
 use native.Mathlib.Omega.{arith}
 use native.Mathlib.Decide.{decLe, decLt, ℕ-discrete}
 use native.Mathlib.Nat.{le-refl}
+use lib.Dec.{eqb, leb, ltb}
 use lib.ListN.{length}
-use borrow.Author.Tests.{le-leb, lt-leb, lt-ltb, le-ltb, eq-eqb, ne-eqb, leb-false, ltb-false, eqb-true, eqb-false, not-false}
-use Rattle.rounding.specs.Rounding.{S}
-use Rattle.ratings.proofs.Laws.{range}
-use Rattle.reliability.specs.declared.Link.{Link}
-use Rattle.reliability.specs.Networks.{Proper}
+use borrow.Author.Tests.{le-leb, lt-leb, lt-ltb, le-ltb, eq-eqb, ne-eqb, ltb-false}
+use Rattle.plan.specs.declared.Cause.{Cause}
+use Rattle.plan.specs.declared.Cause.the-variants.{Limit, Buffer, Short, Nodes, Links, Length, End, Value, Place}
 use Rattle.plan.specs.declared.Verdict.{Verdict}
 use Rattle.plan.specs.declared.Verdict.the-variants.{Accepted, Refused}
-use Rattle.plan.specs.declared.Cause.{Cause}
-use Rattle.plan.specs.declared.Cause.the-variants.{Short, Nodes, Links, Length, End, Value}
-use Rattle.plan.specs.declared.Rated.{Rated}
-use Rattle.plan.specs.declared.Rated.the-variants.{Units, Unrated}
-use lib.Dec.{leb}
-use Rattle.plan.specs.Plans.{WellFormed, WellFormedLink, sizeN, sizeM, firstEnd, secondEnd, fileValue, rated, isRated, unitsOf, refusedIf, also, linkVerdict, linksVerdict, verdict, linkIn, linksIn}
+use Rattle.plan.specs.Plans.{sizeN, sizeM, firstEnd, secondEnd, fileValue, rated, isRated, refusedIf, also, linkVerdict, linksVerdict, verdict, WellFormedLink, WellFormed, number, returned}
 
 -- ---- one link
 
 module _ (b : List ℕ) (i : ℕ) where
-  pub end-refused : (sizeN b ≤ firstEnd b i) ⊎ (sizeN b ≤ secondEnd b i) → linkVerdict b i ≡ Refused (End i)
+  pub refused-end : (sizeN b ≤ firstEnd b i) ⊎ (sizeN b ≤ secondEnd b i) → linkVerdict b i ≡ Refused (End i)
   unfolding linkVerdict
-  end-refused (inl h) = simp (le-leb _ _ h)
-  end-refused (inr h) = simp (le-leb _ _ h, or-true)
+  refused-end (inl h) = simp (le-leb _ _ h)
+  refused-end (inr h) = simp (le-leb _ _ h, or-true)
 
   pub by-value : {t : Bool} → firstEnd b i < sizeN b → secondEnd b i < sizeN b → isRated (rated (fileValue b i)) ≡ t → linkVerdict b i ≡ refusedIf (not t) (Value i) Accepted
   unfolding linkVerdict
@@ -51,28 +45,28 @@ none-left b i m h = let left : m - i ≡ zero = omega arith in ap (linksVerdict 
 -- ---- the rows of the table, in order
 
 module _ (b : List ℕ) where
-  pub short : length b < 4 → verdict b ≡ Refused Short
+  pub refused-short : length b < 4 → verdict b ≡ Refused Short
   unfolding verdict
-  short h = simp (lt-ltb _ _ h)
+  refused-short h = simp (lt-ltb _ _ h)
 
   module _ (long : 4 ≤ length b) where
-    pub nodes : (sizeN b ≡ 0) ⊎ (32 < sizeN b) → verdict b ≡ Refused Nodes
+    pub refused-nodes : (sizeN b ≡ 0) ⊎ (32 < sizeN b) → verdict b ≡ Refused Nodes
     unfolding verdict
-    nodes (inl h) = simp (le-ltb _ _ long, eq-eqb _ _ h)
-    nodes (inr h) = simp (le-ltb _ _ long, lt-ltb _ _ h, or-true)
+    refused-nodes (inl h) = simp (le-ltb _ _ long, eq-eqb _ _ h)
+    refused-nodes (inr h) = simp (le-ltb _ _ long, lt-ltb _ _ h, or-true)
 
     module _ (some : 0 < sizeN b) (few : sizeN b ≤ 32) where
       nonzero : sizeN b ≡ 0 → ⊥
       nonzero e = omega arith
 
-      pub links : 64 < sizeM b → verdict b ≡ Refused Links
+      pub refused-links : 64 < sizeM b → verdict b ≡ Refused Links
       unfolding verdict
-      links h = simp (le-ltb _ _ long, ne-eqb _ _ nonzero, le-ltb _ _ few, lt-ltb _ _ h)
+      refused-links h = simp (le-ltb _ _ long, ne-eqb _ _ nonzero, le-ltb _ _ few, lt-ltb _ _ h)
 
       module _ (fewer : sizeM b ≤ 64) where
-        pub lengths : (length b ≡ 4 + 6 * sizeM b → ⊥) → verdict b ≡ Refused Length
+        pub refused-length : (length b ≡ 4 + 6 * sizeM b → ⊥) → verdict b ≡ Refused Length
         unfolding verdict
-        lengths h = simp (le-ltb _ _ long, ne-eqb _ _ nonzero, le-ltb _ _ few, le-ltb _ _ fewer, ne-eqb _ _ h)
+        refused-length h = simp (le-ltb _ _ long, ne-eqb _ _ nonzero, le-ltb _ _ few, le-ltb _ _ fewer, ne-eqb _ _ h)
 
         pub by-links : length b ≡ 4 + 6 * sizeM b → verdict b ≡ linksVerdict b 0 (sizeM b)
         unfolding verdict
@@ -96,8 +90,8 @@ both (Refused c) v e = let z : _≡_ {A = ℕ} 0 1 = cc in absurd (omega arith)
 module _ (b : List ℕ) (i : ℕ) where
   link-accepted : linkVerdict b i ≡ Accepted → WellFormedLink b i
   link-accepted e =
-      let h = kept (decLt (firstEnd b i) (sizeN b)) e (λ n. end-refused b i (inl (omega arith))) in
-      let k = kept (decLt (secondEnd b i) (sizeN b)) e (λ n. end-refused b i (inr (omega arith))) in
+      let h = kept (decLt (firstEnd b i) (sizeN b)) e (λ n. refused-end b i (inl (omega arith))) in
+      let k = kept (decLt (secondEnd b i) (sizeN b)) e (λ n. refused-end b i (inr (omega arith))) in
       record { first = h; second = k; valued = kept (Bool-discrete (isRated (rated (fileValue b i))) true) e (λ n. by-value b i h k (not-true-false n)) }
 
   accepted-link : WellFormedLink b i → linkVerdict b i ≡ Accepted
@@ -118,11 +112,11 @@ accepted-links b i (suc k) f = rw (accepted-link b i (f i (le-refl i) (omega ari
 module _ (b : List ℕ) where
   accepted : verdict b ≡ Accepted → WellFormed b
   accepted e =
-      let long = kept (decLe 4 (length b)) e (λ n. short b (omega arith)) in
-      let some = kept (decLt 0 (sizeN b)) e (λ n. nodes b long (inl (omega arith))) in
-      let few = kept (decLe (sizeN b) 32) e (λ n. nodes b long (inr (omega arith))) in
-      let fewer = kept (decLe (sizeM b) 64) e (λ n. links b long some few (omega arith)) in
-      let whole = kept (ℕ-discrete (length b) (4 + 6 * sizeM b)) e (λ n. lengths b long some few fewer n) in
+      let long = kept (decLe 4 (length b)) e (λ n. refused-short b (omega arith)) in
+      let some = kept (decLt 0 (sizeN b)) e (λ n. refused-nodes b long (inl (omega arith))) in
+      let few = kept (decLe (sizeN b) 32) e (λ n. refused-nodes b long (inr (omega arith))) in
+      let fewer = kept (decLe (sizeM b) 64) e (λ n. refused-links b long some few (omega arith)) in
+      let whole = kept (ℕ-discrete (length b) (4 + 6 * sizeM b)) e (λ n. refused-length b long some few fewer n) in
       record {
         some-node = some;
         nodes = few;
@@ -137,3 +131,54 @@ module _ (b : List ℕ) where
     accepted,
     λ w. by-links b (omega arith) (w .some-node) (w .nodes) (w .links) (w .whole) ∙ accepted-links b 0 (sizeM b) (λ j l h. w .each j (omega arith)),
   )
+
+-- ---- the numbers returned
+
+-- the column Number
+pub number-range : (c : Cause) → (1 ≤ number c) × (number c ≤ 9)
+number-range Short = omega arith
+number-range Nodes = omega arith
+number-range Links = omega arith
+number-range Length = omega arith
+number-range (End i) = omega arith
+number-range (Value i) = omega arith
+number-range Limit = omega arith
+number-range Place = omega arith
+number-range Buffer = omega arith
+
+-- 0 is returned of nothing but an accepted plan
+pub zero-accepted : (v : Verdict) → returned v ≡ 0 → v ≡ Accepted
+zero-accepted Accepted e = refl
+zero-accepted (Refused c) e = absurd (omega (arith, number-range c))
+
+module _ (b : List ℕ) where
+  link-returned : (i : ℕ) → returned (linkVerdict b i) ≤ 6 + 256 * i
+  unfolding linkVerdict
+  link-returned i = go (leb (sizeN b) (firstEnd b i) || leb (sizeN b) (secondEnd b i)) (not (isRated (rated (fileValue b i))))
+    where
+      go : (s t : Bool) → returned (refusedIf s (End i) (refusedIf t (Value i) Accepted)) ≤ 6 + 256 * i
+      go true t = omega arith
+      go false true = omega arith
+      go false false = zero-le
+
+  links-returned : (i k : ℕ) → i + k ≤ 64 → returned (linksVerdict b i k) ≤ 6 + 256 * 63
+  unfolding linksVerdict
+  links-returned i zero h = zero-le
+  links-returned i (suc k) h = go (linkVerdict b i) (link-returned i) (links-returned (suc i) k (omega arith))
+    where
+      go : (v : Verdict) → returned v ≤ 6 + 256 * i → returned (linksVerdict b (suc i) k) ≤ 6 + 256 * 63 → returned (also v (linksVerdict b (suc i) k)) ≤ 6 + 256 * 63
+      go Accepted p q = q
+      go (Refused c) p q = omega arith
+
+  -- no plan is refused with more than 6 at link 63
+  pub returned-range : returned (verdict b) ≤ 6 + 256 * 63
+  unfolding verdict
+  returned-range =
+      go (ltb (length b) 4) (eqb (sizeN b) 0 || ltb 32 (sizeN b)) (ltb 64 (sizeM b)) (not (eqb (length b) (4 + 6 * sizeM b))) (ltb-false 64 (sizeM b))
+    where
+      go : (q r s t : Bool) → (s ≡ false → sizeM b ≤ 64) → returned (refusedIf q Short (refusedIf r Nodes (refusedIf s Links (refusedIf t Length (linksVerdict b 0 (sizeM b)))))) ≤ 6 + 256 * 63
+      go true r s t h = omega arith
+      go false true s t h = omega arith
+      go false false true t h = omega arith
+      go false false false true h = omega arith
+      go false false false false h = links-returned 0 (sizeM b) (omega (arith, h refl))
