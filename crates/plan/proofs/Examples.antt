@@ -2,12 +2,10 @@
 -- definitions.
 use Prim.Native.Nat.{ℕ, _+_, _*_}
 use mathlib.Core.Path.{_≡_, refl}
-use mathlib.Core.List.{List, [], _∷_, _++_}
+use mathlib.Core.List.{List, [], _∷_}
 use mathlib.Core.Bool.{Bool, true}
 use lib.Dec.{eqb}
 use lib.ListN.{replicate}
-use Rattle.rounding.specs.Rounding.{S}
-use Rattle.reliability.specs.declared.Link.{Link}
 use Rattle.reliability.specs.Networks.{linked, every}
 use Rattle.plan.specs.Plans.{rated, linkVerdict, linksVerdict, verdict, returned, sizeM, linkIn, linksIn}
 

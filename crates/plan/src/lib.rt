@@ -38,6 +38,12 @@ pub struct Sizes {
     pub m: u16,
 }
 
+// The lent plan and the position of what is read next.
+pub struct Reader<'a> {
+    pub plan: &'a [u8],
+    pub at: usize,
+}
+
 // A link as it stands in the file.
 pub struct Entry {
     pub a: u8,
@@ -49,24 +55,53 @@ pub fn word16(s: &[u8], at: usize) -> u16
     requires { ⌜ at + 2 ≤ length (now s) ⌝ }
     ensures { λ r. ⌜ r ≡ word16 (now (s .entry)) at ⌝ }
 {
-    (s[at] as u16) + 256 * (s[at + 1] as u16)
+    let low = s[at] as u16;
+    let high = s[at + 1] as u16;
+    low + 256 * high
 }
 
 pub fn word32(s: &[u8], at: usize) -> u32
     requires { ⌜ at + 4 ≤ length (now s) ⌝ }
     ensures { λ r. ⌜ r ≡ word32 (now (s .entry)) at ⌝ }
 {
-    (word16(s, at) as u32) + 65_536 * (word16(s, at + 2) as u32)
+    let low = word16(s, at) as u32;
+    let high = word16(s, at + 2) as u32;
+    low + 65_536 * high
+}
+
+impl<'a> Reader<'a> {
+    pub fn new(plan: &'a [u8]) -> Reader<'a>
+        ensures { λ r. ⌜ (r .plan ≡ plan .entry) × (r .at ≡ 0) ⌝ }
+    {
+        Reader { plan, at: 0 }
+    }
+
+    pub fn advanced(self, k: usize) -> Reader<'a>
+        requires { ⌜ self .at + k ≤ length (now (self .plan)) ⌝ }
+        ensures { λ r. ⌜ (r .plan ≡ self .entry .plan) × (r .at ≡ self .entry .at + k) ⌝ }
+    {
+        Reader {
+            plan: self.plan,
+            at: self.at + k,
+        }
+    }
+
+    pub fn word16(self) -> u16
+        requires { ⌜ self .at + 2 ≤ length (now (self .plan)) ⌝ }
+        ensures { λ r. ⌜ r ≡ word16 (now (self .entry .plan)) (self .entry .at) ⌝ }
+    {
+        word16(self.plan, self.at)
+    }
 }
 
 pub fn sizes_of(plan: &[u8]) -> Sizes
     requires { ⌜ 4 ≤ length (now plan) ⌝ }
     ensures { λ r. ⌜ (r .n ≡ sizeN (now (plan .entry))) × (r .m ≡ sizeM (now (plan .entry))) ⌝ }
 {
-    Sizes {
-        n: word16(plan, 0),
-        m: word16(plan, 2),
-    }
+    let r = Reader::new(plan);
+    let n = r.word16();
+    let m = r.advanced(2).word16();
+    Sizes { n, m }
 }
 
 fn entry_at(plan: &[u8], i: usize) -> Entry
