@@ -1,3 +1,4 @@
 pub mod Verdicts
 pub mod Links
 pub mod Examples
+pub mod Accepted

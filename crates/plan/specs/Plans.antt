@@ -8,7 +8,8 @@ use lib.ListN.{length, getD}
 use Rattle.rounding.specs.Rounding.{S}
 use Rattle.ratings.specs.Ratings.{T}
 use Rattle.reliability.specs.declared.Link.{Link}
-use Rattle.reliability.specs.Networks.{linked}
+use Rattle.reliability.specs.Networks.{Network, linked}
+use Rattle.network.specs.Places.{from}
 use Rattle.plan.specs.declared.Cause.{Cause}
 use Rattle.plan.specs.declared.Cause.the-variants.{Limit, Buffer, Short, Nodes, Links, Length, End, Value, Place}
 use Rattle.plan.specs.declared.Verdict.{Verdict}
@@ -145,3 +146,7 @@ linkIn b i = linked (firstEnd b i) (secondEnd b i) (λ d. unitsOf (rated (fileVa
 unfoldable pub linksIn : List ℕ → ℕ → ℕ → List Link
 linksIn b i zero = []
 linksIn b i (suc k) = linkIn b i ∷ linksIn b (suc i) k
+
+-- the network of an accepted plan: the nodes 0 to n - 1, and the links in order
+abbrev pub planOf : List ℕ → Network
+planOf b = record { nodes = from 0 (sizeN b); links = linksIn b 0 (sizeM b) }
