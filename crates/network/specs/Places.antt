@@ -67,7 +67,7 @@ abbrev pub indexOf : Network → ℕ → ℕ
 indexOf n p = rank p (members (n .alive))
 
 -- a network that is being built: its k links stand at the places 0 to k − 1
-pub Built : Network → ℕ → Type 0
+unfoldable pub Built : Network → ℕ → Type 0
 Built n k = members (n .alive) ≡ replicate k true ++ replicate (64 - k) false
 
 -- a step by places in use, and its places among the links then left

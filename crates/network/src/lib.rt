@@ -8,7 +8,7 @@ ghost use mathlib.Core.Bool.{cond};
 ghost use lib.Dec.{eqb};
 ghost use Prim.Native.Nat.{_+_, _≤_, _<_};
 ghost use Rattle.reliability.specs.Networks.{Valid, linkAt};
-ghost use Rattle.reliability.specs.Rule.{rename, next, deleted, removed, joined, inParallel, inSeries, contracted};
+ghost use Rattle.reliability.specs.Rule.{rename, renamed, next, deleteAt, without, deleted, removed, joined, inParallel, inSeries, contracted};
 ghost use Rattle.network.specs.Places.{networkOf, linksOf, nodesOf, from, indexOf, Used, Built, ranked, Placed};
 
 mod search;
@@ -163,7 +163,11 @@ impl Network {
         }
     }
 
-    fn merged(mut self, i: usize, keep: u8, gone: u8) -> Network {
+    // Link i and node gone go, and every end gone becomes keep.
+    fn merged(mut self, i: usize, keep: u8, gone: u8) -> Network
+        requires { ⌜ Used self i × (gone < 64) ⌝ }
+        ensures { λ r. ⌜ (nodesOf r ≡ without gone (nodesOf self)) × (linksOf r ≡ map (renamed keep gone) (deleteAt (indexOf self i) (linksOf self))) ⌝ }
+    {
         let first = self.a;
         let second = self.b;
         let a = all_renamed(first, keep, gone);
