@@ -2,19 +2,23 @@
 use Prim.Native.Nat.{ℕ, zero, suc, _/_, _%_, _^_, _≤_, _<_}
 use mathlib.Core.Path.{_≡_, refl, sym, ap, ap₂, _∙_, subst}
 use mathlib.Core.List.{List, [], _∷_, map, map-map, List·Memᴰ, List·Memᴰ·head, List·Memᴰ·tail, List·Memᴰ·not-nil, Memᴰ·of-map}
-use mathlib.Core.Bool.{Bool, true, false, _&&_, true≢false}
+use mathlib.Core.Bool.{Bool, true, false, not, _&&_, true≢false}
 use native.Mathlib.Decide.{decLt}
 use native.Mathlib.Nat.{pow-suc}
 use native.Mathlib.Omega.{arith}
+use lib.Dec.{eqb}
 use lib.ListN.{length, getD, set, List·getD-eq-default}
+use borrow.Author.Tests.{eq-eqb, ne-eqb}
 use Rattle.bits.specs.Members.{bitOf, digits, members, firstOf, howMany}
 use Rattle.bits.proofs.Digits.{length-digits, digits-empty, lowest-set}
 use Rattle.bits.proofs.Places.{first-set, count-cleared}
 use Rattle.reliability.specs.declared.Link.{Link}
 use Rattle.reliability.specs.Networks.{Valid, Ends, ends, linked}
+use Rattle.reliability.proofs.Lists.{by-eqb}
 use Rattle.reliability.proofs.Searches.{nth}
 use Rattle.network.specs.declared.Network.{Network}
-use Rattle.network.specs.Places.{pick, rank, from, placesIn, rows, networkOf, linksOf, marked, joints, Used, Bounded, Ended, filter}
+use Rattle.network.specs.declared.search.Found.the-variants.{At, Nothing}
+use Rattle.network.specs.Places.{pick, rank, from, placesIn, rows, networkOf, linksOf, marked, joints, Used, Bounded, Ended, filter, found}
 use Rattle.network.proofs.Picks.{Sized, row, rowAt, allRows, length-all, rows-at, pick-map, proper-row}
 
 -- ---- the places of a set, ascending
@@ -115,3 +119,102 @@ module _ (n : Network) (sized : Sized n) where
     bounded h p u =
         let e = ended p u in
         (digits-within 64 (n .nodes) (getD (n .a) p 0) 32 (e .0) h, digits-within 64 (n .nodes) (getD (n .b) p 0) 32 (e .1) h)
+
+-- ---- a list's elements at which a test holds
+
+module _ (p : ℕ → Bool) (k : ℕ) (ks : List ℕ) where
+  pub filter-here : p k ≡ true → filter p (k ∷ ks) ≡ k ∷ filter p ks
+  unfolding filter
+  filter-here h = rw (h, filter)
+
+  pub filter-past : p k ≡ false → filter p (k ∷ ks) ≡ filter p ks
+  unfolding filter
+  filter-past h = rw (h, filter)
+
+-- ---- a set, place by place
+
+indices-first : (bs : List Bool) → 0 < howMany bs → indices bs ≡ firstOf bs ∷ indices (set bs (firstOf bs) false)
+unfolding indices
+indices-first [] h = absurd (omega arith)
+indices-first (true ∷ bs) h = refl
+indices-first (false ∷ bs) h = ap (map suc) (indices-first bs h)
+
+pub indices-none : (bs : List Bool) → howMany bs ≡ 0 → indices bs ≡ []
+unfolding indices
+indices-none [] h = refl
+indices-none (true ∷ bs) h = absurd (omega arith)
+indices-none (false ∷ bs) h = ap (map suc) (indices-none bs h)
+
+cleared-in : (bs : List Bool) (i k : ℕ) → getD (set bs i false) k false ≡ true → getD bs k false ≡ true
+cleared-in [] i k e = e
+cleared-in (b ∷ bs) zero zero e = absurd (true≢false (sym e))
+cleared-in (b ∷ bs) zero (suc k) e = e
+cleared-in (b ∷ bs) (suc i) zero e = e
+cleared-in (b ∷ bs) (suc i) (suc k) e = cleared-in bs i k e
+
+-- what is in t is in s
+abbrev pub Within : ℕ → ℕ → Type 0
+Within t s = (k : ℕ) → getD (members t) k false ≡ true → getD (members s) k false ≡ true
+
+pub none-listed : placesIn 0 ≡ []
+none-listed = places-listed 0 ∙ indices-none (members 0) (digits-empty 64 0 (omega arith) .1 refl)
+
+-- a set t that is not empty, and its lowest place k
+pub record Lowest (t k : ℕ) : Type 0 where
+  pub some : 0 < t
+  pub small : t < 2 ^ 64
+  pub first : k ≡ firstOf (members t)
+
+module _ (t k : ℕ) (l : Lowest t k) where
+  pub lowest-in : getD (members t) k false ≡ true
+  lowest-in = rw (l .first) (lowest-set 64 t (l .some) (l .small) .1)
+
+  pub lowest-below : k < 64
+  lowest-below = omega (arith, l .first, lowest-set 64 t (l .some) (l .small) .0)
+
+  counted : 0 < howMany (members t)
+  counted = omega (arith, count-cleared (members t) k lowest-in)
+
+  lowest-first : placesIn t ≡ k ∷ indices (set (members t) k false)
+  lowest-first = rw (l .first) (places-listed t ∙ indices-first (members t) counted)
+
+  -- and the rest r of it
+  module _ (r : ℕ) (rest : members r ≡ set (members t) (firstOf (members t)) false) where
+    pub lowest-rest : placesIn t ≡ k ∷ placesIn r
+    lowest-rest = lowest-first ∙ ap (λ (ks : List ℕ). k ∷ ks) (ap (λ (i : ℕ). indices (set (members t) i false)) (l .first) ∙ ap indices (sym rest) ∙ sym (places-listed r))
+
+    pub rest-count : suc (howMany (members r)) ≡ howMany (members t)
+    rest-count = ap (λ (bs : List Bool). suc (howMany bs)) (rest ∙ ap (λ (i : ℕ). set (members t) i false) (sym (l .first))) ∙ count-cleared (members t) k lowest-in
+
+    pub rest-within : (s : ℕ) → Within t s → Within r s
+    rest-within s h j e = h j (cleared-in (members t) (firstOf (members t)) j (subst (λ (bs : List Bool). getD bs j false ≡ true) rest e))
+
+  -- a search for the first place at which a test holds
+  module _ (p : ℕ → Bool) where
+    pub search-hits : p k ≡ true → found (filter p (placesIn t)) ≡ At k
+    search-hits h = ap (λ (ks : List ℕ). found (filter p ks)) lowest-first ∙ ap found (filter-here p k (indices (set (members t) k false)) h)
+
+    pub search-misses : p k ≡ false → (r : ℕ) → members r ≡ set (members t) (firstOf (members t)) false → filter p (placesIn t) ≡ filter p (placesIn r)
+    search-misses h r rest = ap (filter p) (lowest-rest r rest) ∙ filter-past p k (placesIn r) h
+
+pub search-ends : (p : ℕ → Bool) (t : ℕ) → t ≡ 0 → found (filter p (placesIn t)) ≡ Nothing
+unfolding filter
+search-ends p t e = ap (λ (s : ℕ). found (filter p (placesIn s))) e ∙ ap (λ (l : List ℕ). found (filter p l)) none-listed
+
+-- ---- the count of a set, by its rest
+
+same-test : (a b c d : ℕ) → (a ≡ b → c ≡ d) → (c ≡ d → a ≡ b) → eqb a b ≡ eqb c d
+same-test a b c d f g = by-eqb (λ t. t ≡ eqb c d) a b (λ e. sym (eq-eqb c d (f e))) (λ n. sym (ne-eqb c d (λ e. n (g e))))
+
+pub empty-test : (s : ℕ) → s < 2 ^ 64 → eqb s 0 ≡ eqb (howMany (members s)) 0
+empty-test s h = let e = digits-empty 64 s h in same-test s 0 (howMany (members s)) 0 (e .1) (e .0)
+
+pub count-rest : (s r d : ℕ) → 0 < s → s < 2 ^ 64 → members r ≡ set (members s) (firstOf (members s)) false
+    → eqb (howMany (members r)) d ≡ eqb (howMany (members s)) (suc d)
+count-rest s r d some small rest =
+    let e = rest-count s (firstOf (members s)) (record { some = some; small = small; first = refl }) r rest in
+    same-test (howMany (members r)) d (howMany (members s)) (suc d) (λ h. omega arith) (λ h. omega arith)
+
+pub count-none : (s d : ℕ) → s ≡ 0 → not (eqb s 0) ≡ eqb (howMany (members s)) (suc d)
+count-none s d e =
+    ap not (eq-eqb s 0 e) ∙ sym (ne-eqb (howMany (members s)) (suc d) (λ h. omega (arith, digits-empty 64 s (omega arith) .1 e)))

@@ -201,10 +201,10 @@ impl Network {
         if let search::Pair::Both(i, j) = search::first_pair(alive, &at, &self.a, &self.b) {
             return Step::Parallel(i, j);
         }
-        if let search::Found::At(v) = search::lowest_with_one(nodes, &at) {
+        if let search::Found::At(v) = search::lowest_with(1, nodes, &at) {
             return Step::End(v, bits::lowest(at[v]));
         }
-        if let search::Found::At(v) = search::lowest_with_two(nodes, &at) {
+        if let search::Found::At(v) = search::lowest_with(2, nodes, &at) {
             let s = at[v];
             return Step::Series(v, bits::lowest(s), bits::lowest(bits::without_lowest(s)));
         }

@@ -120,29 +120,23 @@ fn is_two(s: u64) -> bool
     s != 0 && is_one(bits::without_lowest(s))
 }
 
-pub fn lowest_with_one(nodes: u64, at: &[u64; 32]) -> Found
-    requires { ⌜ nodes < 2 ^ 32 ⌝ }
-    ensures { λ r. ⌜ r ≡ found (withLinks 1 (now (at .entry)) nodes) ⌝ }
+// Whether s has d places, one or two.
+fn has_places(s: u64, d: u32) -> bool
+    requires { ⌜ (0 < d) × (d < 3) ⌝ }
+    ensures { λ r. ⌜ r ≡ eqb (howMany (members s)) d ⌝ }
 {
-    let mut t = nodes;
-    while t != 0 {
-        let v = bits::lowest(t);
-        if is_one(at[v]) {
-            return Found::At(v);
-        }
-        t = bits::without_lowest(t);
-    }
-    Found::Nothing
+    if d == 1 { is_one(s) } else { is_two(s) }
 }
 
-pub fn lowest_with_two(nodes: u64, at: &[u64; 32]) -> Found
-    requires { ⌜ nodes < 2 ^ 32 ⌝ }
-    ensures { λ r. ⌜ r ≡ found (withLinks 2 (now (at .entry)) nodes) ⌝ }
+// The lowest node with d links, one or two.
+pub fn lowest_with(d: u32, nodes: u64, at: &[u64; 32]) -> Found
+    requires { ⌜ (0 < d) × (d < 3) × (nodes < 2 ^ 32) ⌝ }
+    ensures { λ r. ⌜ r ≡ found (withLinks d (now (at .entry)) nodes) ⌝ }
 {
     let mut t = nodes;
     while t != 0 {
         let v = bits::lowest(t);
-        if is_two(at[v]) {
+        if has_places(at[v], d) {
             return Found::At(v);
         }
         t = bits::without_lowest(t);
