@@ -2,6 +2,7 @@
 ghost use mathlib.Core.Path.{_≡_};
 ghost use Prim.Native.Nat.{_^_, _<_};
 ghost use lib.Dec.{eqb};
+ghost use lib.ListN.{length};
 ghost use Rattle.bits.specs.Members.{members, howMany};
 ghost use Rattle.reliability.specs.Networks.{connected};
 ghost use Rattle.network.specs.Places.{pick, nodesIn, placesIn, joints, Incidence, Bounded, Ended, found, loops, beside, pairIn, withLinks};
@@ -33,7 +34,7 @@ pub fn first_loop<'r>(alive: u64, a: &'r [u8; 64], b: &'r [u8; 64]) -> Found
 
 // The places of the links at each node.
 pub fn incidence<'r>(alive: u64, a: &'r [u8; 64], b: &'r [u8; 64]) -> [u64; 32]
-    requires { ⌜ Bounded alive (now a) (now b) ⌝ }
+    requires { ⌜ (length (now a) ≡ 64) × (length (now b) ≡ 64) × Bounded alive (now a) (now b) ⌝ }
     ensures { λ r. ⌜ Incidence r alive (now (a .entry)) (now (b .entry)) ⌝ }
 {
     let mut at = [0u64; 32];
@@ -93,7 +94,7 @@ pub fn connects<'r>(
 
 // The first link with a partner, and its earliest partner.
 pub fn first_pair<'r>(alive: u64, at: &'r [u64; 32], a: &'r [u8; 64], b: &'r [u8; 64]) -> Pair
-    requires { ⌜ Bounded alive (now a) (now b) × Incidence (now at) alive (now a) (now b) ⌝ }
+    requires { ⌜ (length (now a) ≡ 64) × (length (now b) ≡ 64) × Bounded alive (now a) (now b) × Incidence (now at) alive (now a) (now b) ⌝ }
     ensures { λ r. ⌜ r ≡ pairIn (beside (now (a .entry)) (now (b .entry))) (placesIn alive) ⌝ }
 {
     let mut t = alive;
