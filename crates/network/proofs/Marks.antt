@@ -132,6 +132,31 @@ module _ (p : ℕ → Bool) (k : ℕ) (ks : List ℕ) where
   unfolding filter
   filter-past h = rw (h, filter)
 
+pub filter-suc : (p : ℕ → Bool) (ks : List ℕ) → filter p (map suc ks) ≡ map suc (filter (λ k. p (suc k)) ks)
+unfolding filter
+filter-suc p [] = refl
+filter-suc p (k ∷ ks) = go (p (suc k)) (filter-suc p ks)
+  where
+    go : (b : Bool) → filter p (map suc ks) ≡ map suc (filter (λ k. p (suc k)) ks)
+        → elim b as (λ c. List ℕ) [ true ↦ suc k ∷ filter p (map suc ks) | false ↦ filter p (map suc ks) ] ≡ map suc (elim b [ true ↦ k ∷ filter (λ k. p (suc k)) ks | false ↦ filter (λ k. p (suc k)) ks ])
+    go true e = ap (λ (l : List ℕ). suc k ∷ l) e
+    go false e = e
+
+-- of the places of a set, those of a part of it
+pub filter-indices : (p : ℕ → Bool) (ts cs : List Bool) → length cs ≡ length ts → ((j : ℕ) → getD cs j false ≡ (getD ts j false && p j)) → filter p (indices ts) ≡ indices cs
+unfolding indices filter
+filter-indices p [] [] l h = refl
+filter-indices p [] (c ∷ cs) l h = absurd (omega arith)
+filter-indices p (t ∷ ts) [] l h = absurd (omega arith)
+filter-indices p (true ∷ ts) (c ∷ cs) l h =
+    go (p zero) refl (filter-suc p (indices ts) ∙ ap (map suc) (filter-indices (λ k. p (suc k)) ts cs (omega arith) (λ j. h (suc j))))
+  where
+    go : (b : Bool) → p zero ≡ b → filter p (map suc (indices ts)) ≡ map suc (indices cs) → filter p (zero ∷ map suc (indices ts)) ≡ indices (c ∷ cs)
+    go true e r = filter-here p zero (map suc (indices ts)) e ∙ ap (λ (l : List ℕ). zero ∷ l) r ∙ ap (λ (b : Bool). indices (b ∷ cs)) (sym (h zero ∙ e))
+    go false e r = filter-past p zero (map suc (indices ts)) e ∙ r ∙ ap (λ (b : Bool). indices (b ∷ cs)) (sym (h zero ∙ e))
+filter-indices p (false ∷ ts) (c ∷ cs) l h =
+    filter-suc p (indices ts) ∙ ap (map suc) (filter-indices (λ k. p (suc k)) ts cs (omega arith) (λ j. h (suc j))) ∙ ap (λ (b : Bool). indices (b ∷ cs)) (sym (h zero))
+
 -- ---- a set, place by place
 
 indices-first : (bs : List Bool) → 0 < howMany bs → indices bs ≡ firstOf bs ∷ indices (set bs (firstOf bs) false)
@@ -176,7 +201,7 @@ module _ (t k : ℕ) (l : Lowest t k) where
   counted : 0 < howMany (members t)
   counted = omega (arith, count-cleared (members t) k lowest-in)
 
-  lowest-first : placesIn t ≡ k ∷ indices (set (members t) k false)
+  pub lowest-first : placesIn t ≡ k ∷ indices (set (members t) k false)
   lowest-first = rw (l .first) (places-listed t ∙ indices-first (members t) counted)
 
   -- and the rest r of it
