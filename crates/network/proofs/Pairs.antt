@@ -1,29 +1,23 @@
 -- The search for a pair, by places.
-use Prim.Native.Nat.{ℕ, zero, suc, _^_, _<_}
+use Prim.Native.Nat.{ℕ, _<_}
 use mathlib.Core.Path.{_≡_, refl, sym, ap, ap₂, _∙_}
-use mathlib.Core.List.{List, [], _∷_}
+use mathlib.Core.List.{List, _∷_}
 use mathlib.Core.Bool.{Bool, true, false, _&&_, and-true, and-false}
-use lib.ListN.{length, getD, set}
+use lib.ListN.{getD, set}
 use Rattle.bits.specs.Members.{members, firstOf, both}
 use Rattle.bits.proofs.Digits.{length-digits}
-use Rattle.bits.proofs.Places.{getD-zipWith}
-use Rattle.network.specs.declared.search.Pair.{Pair}
 use Rattle.network.specs.declared.search.Pair.the-variants.{Both, Neither}
 use Rattle.network.specs.Places.{placesIn, touching, Incidence, filter, beside, pairIn}
-use Rattle.network.proofs.Marks.{indices, places-listed, filter-indices, none-listed, Within, Lowest, lowest-first, lowest-rest, incident}
+use Rattle.network.proofs.Sets.{has, has-zip, at-node}
+use Rattle.network.proofs.Marks.{places-listed, filter-indices, none-listed, Within, Lowest, lowest-first, lowest-rest}
 
 -- of the places of r, all in use, those that are at both ends
 shared : (u s t r : Bool) → (r ≡ true → u ≡ true) → (((u && s) && (u && t)) && r) ≡ (r && (s && t))
 shared u s t true h = rw (h refl) (and-true (s && t))
 shared u s t false h = and-false ((u && s) && (u && t))
 
-both-at : (s t k : ℕ) → getD (both (members s) (members t)) k false ≡ (getD (members s) k false && getD (members t) k false)
-both-at s t k = getD-zipWith _&&_ refl (members s) (members t) (length-digits 64 s ∙ sym (length-digits 64 t)) k
-
 -- a turn of the search: the lowest place i of t, the rest r of t, and the partners of i in r
 pub record Turn (at as₁ bs : List ℕ) (alive t i r m q : ℕ) : Type 0 where
-  pub full-a : length as₁ ≡ 64
-  pub full-b : length bs ≡ 64
   pub incidence : Incidence at alive as₁ bs
   pub a-below : getD as₁ i 0 < 32
   pub b-below : getD bs i 0 < 32
@@ -34,14 +28,14 @@ pub record Turn (at as₁ bs : List ℕ) (alive t i r m q : ℕ) : Type 0 where
   pub partners : members q ≡ both (members m) (members r)
 
 module _ (at as₁ bs : List ℕ) (alive t i r m q : ℕ) (turn : Turn at as₁ bs alive t i r m q) where
-  found-at : (j : ℕ) → getD (members q) j false ≡ (getD (members r) j false && beside as₁ bs i j)
+  found-at : (j : ℕ) → has q j ≡ (has r j && beside as₁ bs i j)
   found-at j =
       let x = getD as₁ i 0 in
       let y = getD bs i 0 in
-      let touched : (v : ℕ) → v < 32 → getD (members (getD at v 0)) j false ≡ (getD (members alive) j false && touching v (getD as₁ j 0) (getD bs j 0)) = λ v h. incident at as₁ bs alive (turn .full-a) (turn .full-b) (turn .incidence) v j h in
-      let ends = ap (λ (us : List Bool). getD us j false) (turn .meet) ∙ both-at (getD at x 0) (getD at y 0) j ∙ ap₂ _&&_ (touched x (turn .a-below)) (touched y (turn .b-below)) in
-      ap (λ (us : List Bool). getD us j false) (turn .partners) ∙ both-at m r j ∙ ap (λ (b : Bool). b && getD (members r) j false) ends
-      ∙ shared (getD (members alive) j false) (touching x (getD as₁ j 0) (getD bs j 0)) (touching y (getD as₁ j 0) (getD bs j 0)) (getD (members r) j false) (turn .within j)
+      let touched : (v : ℕ) → v < 32 → has (getD at v 0) j ≡ (has alive j && touching v (getD as₁ j 0) (getD bs j 0)) = λ v h. at-node at as₁ bs alive (turn .incidence) v h j in
+      let ends = has-zip _&&_ refl m (getD at x 0) (getD at y 0) (turn .meet) j ∙ ap₂ _&&_ (touched x (turn .a-below)) (touched y (turn .b-below)) in
+      has-zip _&&_ refl q m r (turn .partners) j ∙ ap (λ (b : Bool). b && has r j) ends
+      ∙ shared (has alive j) (touching x (getD as₁ j 0) (getD bs j 0)) (touching y (getD as₁ j 0) (getD bs j 0)) (has r j) (turn .within j)
 
   listed : filter (beside as₁ bs i) (placesIn r) ≡ placesIn q
   listed =

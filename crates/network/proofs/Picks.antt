@@ -7,7 +7,6 @@ use native.Mathlib.Nat.{lt-of-le-of-lt, not-suc-le-zero, le-of-suc-le-suc, pow-s
 use native.Mathlib.Numerals.{add-one}
 use native.Mathlib.Omega.{arith}
 use borrow.Author.Tests.{eq-eqb, ne-eqb}
-use lib.Dec.{eqb}
 use lib.ListN.{length, getD, set, take, replicate, length-append, length-replicate, getD-replicate, List·getD-append}
 use lib.Seq.{set-getD, take-suc-set, length-take-le}
 use lib.Pow.{pow-pos, pow-mono}

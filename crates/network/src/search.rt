@@ -52,33 +52,7 @@ pub fn incidence<'r>(alive: u64, a: &'r [u8; 64], b: &'r [u8; 64]) -> [u64; 32]
     at
 }
 
-// The ends of the links s, as a set of nodes.
-fn ends_of<'r>(s: u64, a: &'r [u8; 64], b: &'r [u8; 64]) -> u64 {
-    let mut ends = 0;
-    let mut t = s;
-    while t != 0 {
-        let k = bits::lowest(t);
-        t = bits::without_lowest(t);
-        ends = bits::with(bits::with(ends, a[k] as usize), b[k] as usize);
-    }
-    ends
-}
-
-// The nodes that the lowest one is connected to.
-pub fn reached<'r>(nodes: u64, at: &'r [u64; 32], a: &'r [u8; 64], b: &'r [u8; 64]) -> u64 {
-    let mut seen = bits::with(0, bits::lowest(nodes));
-    let mut todo = seen;
-    while todo != 0 {
-        let v = bits::lowest(todo);
-        let near = ends_of(at[v], a, b);
-        let fresh = bits::difference(near, seen);
-        seen = bits::union(seen, fresh);
-        todo = bits::union(bits::without_lowest(todo), fresh);
-    }
-    seen
-}
-
-// Whether the links in use connect the nodes.
+// Whether the links in use connect the nodes: from the lowest node on, each link is followed at most once.
 pub fn connects<'r>(
     nodes: u64,
     alive: u64,
@@ -89,12 +63,28 @@ pub fn connects<'r>(
     requires { ⌜ (0 < nodes) × (nodes < 2 ^ 32) × Incidence (now at) alive (now a) (now b) × Ended nodes alive (now a) (now b) ⌝ }
     ensures { λ r. ⌜ r ≡ connected (nodesIn nodes) (pick (members alive) (joints (now (a .entry)) (now (b .entry)))) ⌝ }
 {
-    reached(nodes, at, a, b) == nodes
+    let first = bits::lowest(nodes);
+    let mut seen = bits::with(0, first);
+    let mut near = at[first];
+    let mut left = alive;
+    while seen != nodes {
+        let todo = bits::meet(near, left);
+        if todo == 0 {
+            return false;
+        }
+        let k = bits::lowest(todo);
+        let x = a[k] as usize;
+        let y = b[k] as usize;
+        seen = bits::with(bits::with(seen, x), y);
+        near = bits::union(near, bits::union(at[x], at[y]));
+        left = bits::without(left, k);
+    }
+    true
 }
 
 // The first link with a partner, and its earliest partner.
 pub fn first_pair<'r>(alive: u64, at: &'r [u64; 32], a: &'r [u8; 64], b: &'r [u8; 64]) -> Pair
-    requires { ⌜ (length (now a) ≡ 64) × (length (now b) ≡ 64) × Bounded alive (now a) (now b) × Incidence (now at) alive (now a) (now b) ⌝ }
+    requires { ⌜ Bounded alive (now a) (now b) × Incidence (now at) alive (now a) (now b) ⌝ }
     ensures { λ r. ⌜ r ≡ pairIn (beside (now (a .entry)) (now (b .entry))) (placesIn alive) ⌝ }
 {
     let mut t = alive;

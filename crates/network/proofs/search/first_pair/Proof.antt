@@ -1,5 +1,5 @@
-use Prim.Native.Nat.{ℕ, _^_, _<_}
-use mathlib.Core.Path.{_≡_, refl, sym, ap, _∙_}
+use Prim.Native.Nat.{_^_, _<_}
+use mathlib.Core.Path.{_≡_, refl, sym, _∙_}
 use native.Mathlib.Omega.{arith}
 use lib.ListN.{getD}
 use borrow.Author.Needs.{needs}
@@ -31,7 +31,7 @@ low c = record { some = search needs; small = c .before .before .loop .inv .2; f
 inside : (c : tie.After-lowest Inv-loop μ-loop) → let s = c .before .before .before in (getD (s .args .a .now) (c .lowest .result) 0 < 32) × (getD (s .args .b .now) (c .lowest .result) 0 < 32)
 inside c =
     let l = c .before .before in
-    l .before .pre .2 (c .lowest .result) (l .loop .inv .1 (c .lowest .result) (lowest-in _ _ (low c)))
+    l .before .pre .0 (c .lowest .result) (l .loop .inv .1 (c .lowest .result) (lowest-in _ _ (low c)))
 
 without-lowest-requires : tie.Need-without-lowest-requires Inv-loop μ-loop
 without-lowest-requires c κs = search needs
@@ -75,9 +75,7 @@ turn c =
     let given = l .before .pre in
     let rest = w .without-lowest .ensures in
     record {
-      full-a = given .0;
-      full-b = given .1;
-      incidence = given .3;
+      incidence = given .1;
       a-below = inside f .0;
       b-below = inside f .1;
       within = rest-within _ _ (low f) _ rest _ (l .loop .inv .1);

@@ -1,10 +1,11 @@
 use Prim.Native.Nat.{ℕ, _^_, _<_}
-use mathlib.Core.Path.{_≡_, refl, sym, subst}
+use mathlib.Core.Path.{_≡_, refl, subst}
 use native.Mathlib.Omega.{arith}
 use lib.ListN.{length, getD, length-set}
 use borrow.Author.Needs.{needs}
 use Rattle.bits.specs.Members.{members, howMany}
-use Rattle.network.proofs.Marks.{Within, Lowest, lowest-in, lowest-below, rest-count, rest-within, Gathered, gathered-none, gathered-more, gathered-all}
+use Rattle.network.proofs.Marks.{Within, Lowest, lowest-in, lowest-below, rest-count, rest-within}
+use Rattle.network.proofs.Gather.{Gathered, gathered-none, gathered-more, gathered-all}
 use Rattle.network.proofs.search.incidence.Statement.{statement}
 use Rattle.network.proofs.search.incidence.Tie as tie
 use Rattle.network.proofs.search.incidence.Reads as reads

@@ -8,7 +8,8 @@ use borrow.Author.Needs.{needs}
 use Rattle.bits.specs.Members.{members, howMany}
 use Rattle.network.specs.Places.{found, withLinks}
 use Rattle.network.proofs.Picks.{cleared-fits}
-use Rattle.network.proofs.Marks.{Lowest, lowest-in, digits-within, rest-count, search-hits, search-misses, search-ends}
+use Rattle.network.proofs.Sets.{has-below}
+use Rattle.network.proofs.Marks.{Lowest, lowest-in, rest-count, search-hits, search-misses, search-ends}
 use Rattle.network.proofs.search.lowest_with.Statement.{statement}
 use Rattle.network.proofs.search.lowest_with.Tie as tie
 use Rattle.network.proofs.search.lowest_with.Reads as reads
@@ -35,7 +36,7 @@ low c = record { some = search needs; small = omega (arith, c .before .before .l
 below : (c : tie.After-lowest Inv-loop μ-loop) → c .lowest .result < 32
 below c =
     let l = c .before .before .loop in
-    digits-within 64 (l .t) (c .lowest .result) 32 (lowest-in _ _ (low c)) (l .inv .1)
+    has-below (l .t) 32 (c .lowest .result) (l .inv .1) (lowest-in _ _ (low c))
 
 mul-has-places : tie.Need-mul-has-places Inv-loop μ-loop
 mul-has-places c = record { fits = omega (arith, below c) }
