@@ -5,9 +5,9 @@ use mathlib.Core.List.{List, [], _∷_, map}
 use mathlib.Core.Bool.{Bool, true, false, not, _&&_, true≢false}
 use native.Mathlib.Decide.{decLt}
 use native.Mathlib.Omega.{arith}
-use lib.Dec.{eqb}
+use lib.Dec.{eqb, leb}
 use lib.ListN.{length, getD, set, List·getD-eq-default}
-use borrow.Author.Tests.{eq-eqb, ne-eqb}
+use borrow.Author.Tests.{eq-eqb, ne-eqb, le-leb, lt-leb}
 use Rattle.bits.specs.Members.{members, firstOf, howMany}
 use Rattle.bits.proofs.Digits.{length-digits, digits-empty, lowest-set}
 use Rattle.bits.proofs.Places.{count-cleared}
@@ -22,7 +22,7 @@ use Rattle.network.proofs.Picks.{Sized, row, rowAt, allRows, length-all
 
 -- ---- the places of a set, ascending
 
-pub indices : List Bool → List ℕ
+unfoldable pub indices : List Bool → List ℕ
 indices [] = []
 indices (true ∷ bs) = zero ∷ map suc (indices bs)
 indices (false ∷ bs) = map suc (indices bs)
@@ -152,7 +152,7 @@ search-ends p t e = ap (λ (s : ℕ). found (filter p (placesIn s))) e ∙ ap (�
 
 -- ---- the count of a set, by its rest
 
-same-test : (a b c d : ℕ) → (a ≡ b → c ≡ d) → (c ≡ d → a ≡ b) → eqb a b ≡ eqb c d
+pub same-test : (a b c d : ℕ) → (a ≡ b → c ≡ d) → (c ≡ d → a ≡ b) → eqb a b ≡ eqb c d
 same-test a b c d f g = by-eqb (λ t. t ≡ eqb c d) a b (λ e. sym (eq-eqb c d (f e))) (λ n. sym (ne-eqb c d (λ e. n (g e))))
 
 pub empty-test : (s : ℕ) → s < 2 ^ 64 → eqb s 0 ≡ eqb (howMany (members s)) 0
@@ -167,6 +167,20 @@ count-rest s r d some small rest =
 pub count-none : (s d : ℕ) → s ≡ 0 → not (eqb s 0) ≡ eqb (howMany (members s)) (suc d)
 count-none s d e =
     ap not (eq-eqb s 0 e) ∙ sym (ne-eqb (howMany (members s)) (suc d) (λ h. omega (arith, digits-empty 64 s (omega arith) .1 e)))
+
+pub few-none : (s : ℕ) → s ≡ 0 → eqb s 0 ≡ leb (howMany (members s)) 1
+few-none s e = eq-eqb s 0 e ∙ sym (le-leb (howMany (members s)) 1 (omega (arith, digits-empty 64 s (omega arith) .1 e)))
+
+pub few-rest : (s r : ℕ) → 0 < s → s < 2 ^ 64 → r < 2 ^ 64 → members r ≡ set (members s) (firstOf (members s)) false → eqb r 0 ≡ leb (howMany (members s)) 1
+few-rest s r some small h rest =
+    let e = rest-count s (firstOf (members s)) (record { some = some; small = small; first = refl }) r rest in
+    let empty = digits-empty 64 r h in
+    by-eqb (λ b. b ≡ leb (howMany (members s)) 1) r 0 (λ q. sym (le-leb (howMany (members s)) 1 (omega (arith, empty .1 q))))
+    (λ n. sym (lt-leb (howMany (members s)) 1 (more (howMany (members r)) (howMany (members s)) (λ q. n (empty .0 q)) e)))
+  where
+    more : (i j : ℕ) → (i ≡ 0 → ⊥) → suc i ≡ j → 1 < j
+    more zero j n e = absurd (n refl)
+    more (suc i) j n e = omega arith
 
 -- ---- the ends of links by place
 

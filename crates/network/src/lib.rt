@@ -191,7 +191,7 @@ impl Network {
         if let search::Found::At(i) = search::first_loop(alive, &self.a, &self.b) {
             return Step::Loop(i);
         }
-        if nodes == 0 || bits::without_lowest(nodes) == 0 {
+        if search::at_most_one(nodes) {
             return Step::OneNode;
         }
         let at = search::incidence(alive, &self.a, &self.b);

@@ -1,7 +1,7 @@
 // The searches over the links in use, by place.
 ghost use mathlib.Core.Path.{_≡_};
 ghost use Prim.Native.Nat.{_^_, _<_};
-ghost use lib.Dec.{eqb};
+ghost use lib.Dec.{eqb, leb};
 ghost use lib.ListN.{length};
 ghost use Rattle.bits.specs.Members.{members, howMany};
 ghost use Rattle.reliability.specs.Networks.{connected};
@@ -97,6 +97,13 @@ pub fn first_pair<'r>(alive: u64, at: &'r [u64; 32], a: &'r [u8; 64], b: &'r [u8
         }
     }
     Pair::Neither
+}
+
+// Whether s has one place at most.
+pub fn at_most_one(s: u64) -> bool
+    ensures { λ r. ⌜ r ≡ leb (howMany (members s)) 1 ⌝ }
+{
+    s == 0 || bits::without_lowest(s) == 0
 }
 
 fn is_one(s: u64) -> bool
