@@ -9,8 +9,8 @@ use lib.Dec.{eqb, leb}
 use lib.ListN.{length, getD, set, List·getD-eq-default}
 use borrow.Author.Tests.{eq-eqb, ne-eqb, le-leb, lt-leb}
 use Rattle.bits.specs.Members.{members, firstOf, howMany}
-use Rattle.bits.proofs.Digits.{length-digits, digits-empty, lowest-set}
-use Rattle.bits.proofs.Places.{count-cleared}
+use Rattle.bits.proofs.Digits.{length-digits, digits-empty}
+use Rattle.bits.proofs.Places.{first-set, count-cleared}
 use Rattle.reliability.specs.Networks.{Valid, Ends, ends}
 use Rattle.reliability.proofs.Lists.{by-eqb}
 use Rattle.reliability.proofs.Searches.{nth}
@@ -110,22 +110,23 @@ none-listed = places-listed 0 ∙ indices-none (members 0) (digits-empty 64 0 (o
 
 -- a set t that is not empty, and its lowest place k
 pub record Lowest (t k : ℕ) : Type 0 where
-  pub some : 0 < t
-  pub small : t < 2 ^ 64
+  pub some : 0 < howMany (members t)
   pub first : k ≡ firstOf (members t)
+
+pub lowest-of : (t k : ℕ) → 0 < t → t < 2 ^ 64 → k ≡ firstOf (members t) → Lowest t k
+lowest-of t k some small first =
+    let counted : howMany (members t) ≡ 0 → ⊥ = λ e. omega (arith, digits-empty 64 t small .0 e) in
+    record { some = omega arith; first = first }
 
 module _ (t k : ℕ) (l : Lowest t k) where
   pub lowest-in : has t k ≡ true
-  lowest-in = rw (l .first) (lowest-set 64 t (l .some) (l .small) .1)
+  lowest-in = rw (l .first) (first-set (members t) (l .some) .1)
 
   pub lowest-below : k < 64
-  lowest-below = omega (arith, l .first, lowest-set 64 t (l .some) (l .small) .0)
-
-  counted : 0 < howMany (members t)
-  counted = omega (arith, count-cleared (members t) k lowest-in)
+  lowest-below = has-place t k lowest-in
 
   pub lowest-first : placesIn t ≡ k ∷ indices (set (members t) k false)
-  lowest-first = rw (l .first) (places-listed t ∙ indices-first (members t) counted)
+  lowest-first = rw (l .first) (places-listed t ∙ indices-first (members t) (l .some))
 
   -- and the rest r of it
   module _ (r : ℕ) (rest : members r ≡ set (members t) (firstOf (members t)) false) where
@@ -161,7 +162,7 @@ empty-test s h = let e = digits-empty 64 s h in same-test s 0 (howMany (members 
 pub count-rest : (s r d : ℕ) → 0 < s → s < 2 ^ 64 → members r ≡ set (members s) (firstOf (members s)) false
     → eqb (howMany (members r)) d ≡ eqb (howMany (members s)) (suc d)
 count-rest s r d some small rest =
-    let e = rest-count s (firstOf (members s)) (record { some = some; small = small; first = refl }) r rest in
+    let e = rest-count s (firstOf (members s)) (lowest-of s (firstOf (members s)) some small refl) r rest in
     same-test (howMany (members r)) d (howMany (members s)) (suc d) (λ h. omega arith) (λ h. omega arith)
 
 pub count-none : (s d : ℕ) → s ≡ 0 → not (eqb s 0) ≡ eqb (howMany (members s)) (suc d)
@@ -173,7 +174,7 @@ few-none s e = eq-eqb s 0 e ∙ sym (le-leb (howMany (members s)) 1 (omega (arit
 
 pub few-rest : (s r : ℕ) → 0 < s → s < 2 ^ 64 → r < 2 ^ 64 → members r ≡ set (members s) (firstOf (members s)) false → eqb r 0 ≡ leb (howMany (members s)) 1
 few-rest s r some small h rest =
-    let e = rest-count s (firstOf (members s)) (record { some = some; small = small; first = refl }) r rest in
+    let e = rest-count s (firstOf (members s)) (lowest-of s (firstOf (members s)) some small refl) r rest in
     let empty = digits-empty 64 r h in
     by-eqb (λ b. b ≡ leb (howMany (members s)) 1) r 0 (λ q. sym (le-leb (howMany (members s)) 1 (omega (arith, empty .1 q))))
     (λ n. sym (lt-leb (howMany (members s)) 1 (more (howMany (members r)) (howMany (members s)) (λ q. n (empty .0 q)) e)))
@@ -181,6 +182,10 @@ few-rest s r some small h rest =
     more : (i j : ℕ) → (i ≡ 0 → ⊥) → suc i ≡ j → 1 < j
     more zero j n e = absurd (n refl)
     more (suc i) j n e = omega arith
+
+pub counted-some : (s : ℕ) → 0 < howMany (members s) → 0 < s
+counted-some zero h = absurd (omega (arith, digits-empty 64 0 (omega arith) .1 refl))
+counted-some (suc s) h = omega arith
 
 -- ---- the ends of links by place
 

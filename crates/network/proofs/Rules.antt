@@ -1,14 +1,14 @@
 -- The rule's own searches, by places.
 use Prim.Native.Nat.{ℕ, zero, suc, _^_, _≤_, _<_}
-use mathlib.Core.Path.{_≡_, refl, sym, ap, ap₂, fun-ext, subst, _∙_}
+use mathlib.Core.Path.{_≡_, refl, sym, ap, ap₂, fun-ext, _∙_}
 use mathlib.Core.List.{List, [], _∷_, map, map-map, List·Memᴰ, List·Memᴰ·head, List·Memᴰ·tail}
 use mathlib.Core.Bool.{Bool, true, false, not, _&&_, _||_, and-false, or-false}
 use mathlib.Core.Option.{Option, some, none, Option·map}
 use native.Mathlib.Omega.{arith}
 use lib.Dec.{eqb, leb}
-use lib.ListN.{length, getD, set, length-map}
+use lib.ListN.{length, getD, length-map}
 use borrow.Author.Tests.{eqb-true, eqb-false, ne-eqb}
-use Rattle.bits.specs.Members.{members, firstOf, howMany}
+use Rattle.bits.specs.Members.{members, howMany}
 use Rattle.bits.proofs.Digits.{length-digits}
 use Rattle.reliability.specs.declared.Link.{Link}
 use Rattle.reliability.specs.declared.Step.{Step}

@@ -8,11 +8,9 @@ use borrow.Author.Needs.{needs}
 use borrow.Author.Tests.{eq-eqb, ne-eqb}
 use Rattle.bits.specs.Members.{members, howMany}
 use Rattle.network.specs.Places.{loops, found}
-use Rattle.network.proofs.Marks.{Lowest, lowest-below, rest-count, search-hits, search-misses, search-ends}
+use Rattle.network.proofs.Marks.{Lowest, lowest-of, lowest-below, rest-count, search-hits, search-misses, search-ends}
 use Rattle.network.proofs.search.first_loop.Statement.{statement}
 use Rattle.network.proofs.search.first_loop.Tie as tie
-use Rattle.network.proofs.search.first_loop.Reads as reads
-use Rattle.network.proofs.search.first_loop.Lts as lts
 
 abbrev Inv-loop : tie.InvT-loop
 Inv-loop alive a b t₀ t = (loops alive a b ≡ loops t a b) × (t < 2 ^ 64)
@@ -27,7 +25,9 @@ lowest-requires : tie.Need-lowest-requires Inv-loop μ-loop
 lowest-requires c κs = search needs
 
 low : (c : tie.After-lowest Inv-loop μ-loop) → Lowest (c .before .before .loop .t) (c .lowest .result)
-low c = record { some = search needs; small = c .before .before .loop .inv .1; first = c .lowest .ensures }
+low c =
+    let l = c .before .before .loop in
+    lowest-of (l .t) (c .lowest .result) (search needs) (l .inv .1) (c .lowest .ensures)
 
 element-copy-out-if1 : tie.Need-element-copy-out-if1 Inv-loop μ-loop
 element-copy-out-if1 c = lowest-below _ _ (low c)

@@ -5,12 +5,10 @@ use lib.ListN.{getD}
 use borrow.Author.Needs.{needs}
 use Rattle.bits.specs.Members.{members, howMany}
 use Rattle.network.specs.Places.{placesIn, beside, pairIn}
-use Rattle.network.proofs.Marks.{Within, Lowest, lowest-in, lowest-below, rest-count, rest-within}
+use Rattle.network.proofs.Marks.{Within, Lowest, lowest-of, lowest-in, lowest-below, rest-count, rest-within}
 use Rattle.network.proofs.Pairs.{Turn, pair-hits, pair-misses, pair-ends}
 use Rattle.network.proofs.search.first_pair.Statement.{statement}
 use Rattle.network.proofs.search.first_pair.Tie as tie
-use Rattle.network.proofs.search.first_pair.Reads as reads
-use Rattle.network.proofs.search.first_pair.Lts as lts
 
 abbrev Inv-loop : tie.InvT-loop
 Inv-loop alive at a b t₀ t = (pairIn (beside a b) (placesIn alive) ≡ pairIn (beside a b) (placesIn t)) × Within t alive × (t < 2 ^ 64)
@@ -25,7 +23,9 @@ lowest-requires : tie.Need-lowest-requires Inv-loop μ-loop
 lowest-requires c κs = search needs
 
 low : (c : tie.After-lowest Inv-loop μ-loop) → Lowest (c .before .before .loop .t) (c .lowest .result)
-low c = record { some = search needs; small = c .before .before .loop .inv .2; first = c .lowest .ensures }
+low c =
+    let l = c .before .before .loop in
+    lowest-of (l .t) (c .lowest .result) (search needs) (l .inv .2) (c .lowest .ensures)
 
 -- its ends are nodes
 inside : (c : tie.After-lowest Inv-loop μ-loop) → let s = c .before .before .before in (getD (s .args .a .now) (c .lowest .result) 0 < 32) × (getD (s .args .b .now) (c .lowest .result) 0 < 32)
@@ -92,7 +92,7 @@ returns : tie.Need-returns Inv-loop μ-loop
 returns c =
     let m = c .before .before in
     let l = m .before .before .before .before .before .before .before .before .before in
-    let first : Lowest (m .meet2 .result) (c .lowest2 .result) = record { some = search needs; small = search needs; first = c .lowest2 .ensures } in
+    let first = lowest-of (m .meet2 .result) (c .lowest2 .result) (search needs) (search needs) (c .lowest2 .ensures) in
     sym (l .loop .inv .0 ∙ pair-hits _ _ _ _ _ _ _ _ _ (turn m) (c .lowest2 .result) first)
 
 loop-less : tie.Need-loop-less Inv-loop μ-loop

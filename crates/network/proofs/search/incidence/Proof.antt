@@ -4,12 +4,10 @@ use native.Mathlib.Omega.{arith}
 use lib.ListN.{length, getD, length-set}
 use borrow.Author.Needs.{needs}
 use Rattle.bits.specs.Members.{members, howMany}
-use Rattle.network.proofs.Marks.{Within, Lowest, lowest-in, lowest-below, rest-count, rest-within}
+use Rattle.network.proofs.Marks.{Within, Lowest, lowest-of, lowest-in, lowest-below, rest-count, rest-within}
 use Rattle.network.proofs.Gather.{Gathered, gathered-none, gathered-more, gathered-all}
 use Rattle.network.proofs.search.incidence.Statement.{statement}
 use Rattle.network.proofs.search.incidence.Tie as tie
-use Rattle.network.proofs.search.incidence.Reads as reads
-use Rattle.network.proofs.search.incidence.Lts as lts
 
 abbrev Inv-loop : tie.InvT-loop
 Inv-loop alive a b at₀ t₀ at t = Gathered at t alive a b × Within t alive × (t < 2 ^ 64) × (length at ≡ 32)
@@ -24,7 +22,9 @@ lowest-requires : tie.Need-lowest-requires Inv-loop μ-loop
 lowest-requires c κs = search needs
 
 low : (c : tie.After-lowest Inv-loop μ-loop) → Lowest (c .before .before .loop .t) (c .lowest .result)
-low c = record { some = search needs; small = c .before .before .loop .inv .2; first = c .lowest .ensures }
+low c =
+    let l = c .before .before .loop in
+    lowest-of (l .t) (c .lowest .result) (search needs) (l .inv .2) (c .lowest .ensures)
 
 -- its ends are nodes
 inside : (c : tie.After-lowest Inv-loop μ-loop) → let s = c .before .before .before in (getD (s .args .a .now) (c .lowest .result) 0 < 32) × (getD (s .args .b .now) (c .lowest .result) 0 < 32)

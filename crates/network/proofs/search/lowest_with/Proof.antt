@@ -9,11 +9,9 @@ use Rattle.bits.specs.Members.{members, howMany}
 use Rattle.network.specs.Places.{found, withLinks}
 use Rattle.network.proofs.Picks.{cleared-fits}
 use Rattle.network.proofs.Sets.{has-below}
-use Rattle.network.proofs.Marks.{Lowest, lowest-in, rest-count, search-hits, search-misses, search-ends}
+use Rattle.network.proofs.Marks.{Lowest, lowest-of, lowest-in, rest-count, search-hits, search-misses, search-ends}
 use Rattle.network.proofs.search.lowest_with.Statement.{statement}
 use Rattle.network.proofs.search.lowest_with.Tie as tie
-use Rattle.network.proofs.search.lowest_with.Reads as reads
-use Rattle.network.proofs.search.lowest_with.Lts as lts
 
 abbrev Inv-loop : tie.InvT-loop
 Inv-loop d nodes at t₀ t = (withLinks d at nodes ≡ withLinks d at t) × (t < 2 ^ 32)
@@ -31,7 +29,9 @@ lowest-requires : tie.Need-lowest-requires Inv-loop μ-loop
 lowest-requires c κs = search needs
 
 low : (c : tie.After-lowest Inv-loop μ-loop) → Lowest (c .before .before .loop .t) (c .lowest .result)
-low c = record { some = search needs; small = omega (arith, c .before .before .loop .inv .1); first = c .lowest .ensures }
+low c =
+    let l = c .before .before .loop in
+    lowest-of (l .t) (c .lowest .result) (search needs) (omega (arith, l .inv .1)) (c .lowest .ensures)
 
 below : (c : tie.After-lowest Inv-loop μ-loop) → c .lowest .result < 32
 below c =
