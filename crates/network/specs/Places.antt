@@ -5,12 +5,16 @@ use mathlib.Core.List.{List, [], _∷_, _++_, zipWith}
 use mathlib.Core.Bool.{Bool, true, false, _&&_, _||_}
 use lib.Dec.{eqb}
 use lib.ListN.{getD, replicate}
-use Rattle.bits.specs.Members.{members}
+use Rattle.bits.specs.Members.{members, howMany}
 use Rattle.reliability.specs.declared.Link.{Link}
 use Rattle.reliability.specs.declared.Step.{Step}
 use Rattle.reliability.specs.declared.Step.the-variants.{OneNode, Disconnected, Loop, Parallel, End, Series, Split}
 use Rattle.reliability.specs.Networks.{Network as Graph, Ends}
 use Rattle.network.specs.declared.Network.{Network}
+use Rattle.network.specs.declared.search.Found.{Found}
+use Rattle.network.specs.declared.search.Found.the-variants.{At, Nothing}
+use Rattle.network.specs.declared.search.Pair.{Pair}
+use Rattle.network.specs.declared.search.Pair.the-variants.{Both, Neither}
 
 -- what stands at the places that are set
 unfoldable pub pick : {A : Type 0} → List Bool → List A → List A
@@ -115,3 +119,36 @@ unfoldable pub joints : List ℕ → List ℕ → List Ends
 joints (a ∷ as₁) (b ∷ bs) = record { a = a; b = b } ∷ joints as₁ bs
 joints [] bs = []
 joints (a ∷ as₁) [] = []
+
+-- ---- what the searches find
+
+-- the places of a set
+abbrev pub placesIn : ℕ → List ℕ
+placesIn s = pick (members s) (from 0 64)
+
+-- those at which a test holds
+unfoldable pub filter : (ℕ → Bool) → List ℕ → List ℕ
+filter p [] = []
+filter p (k ∷ ks) = elim (p k) [ true ↦ k ∷ filter p ks | false ↦ filter p ks ]
+
+-- the first of them
+abbrev pub found : List ℕ → Found
+found [] = Nothing
+found (k ∷ ks) = At k
+
+-- the places in use whose link joins a node to itself
+abbrev pub loops : ℕ → List ℕ → List ℕ → List ℕ
+loops alive as₁ bs = filter (λ k. eqb (getD as₁ k 0) (getD bs k 0)) (placesIn alive)
+
+-- the link at j touches both ends of the link at i
+abbrev pub beside : List ℕ → List ℕ → ℕ → ℕ → Bool
+beside as₁ bs i j = touching (getD as₁ i 0) (getD as₁ j 0) (getD bs j 0) && touching (getD bs i 0) (getD as₁ j 0) (getD bs j 0)
+
+-- the first place with a partner behind it, and its earliest partner
+unfoldable pub pairIn : (ℕ → ℕ → Bool) → List ℕ → Pair
+pairIn t [] = Neither
+pairIn t (i ∷ is) = elim (filter (t i) is) [ [] ↦ pairIn t is | j ∷ js ↦ Both i j ]
+
+-- the nodes of a set at which there are d links
+abbrev pub withLinks : ℕ → List ℕ → ℕ → List ℕ
+withLinks d at nodes = filter (λ v. eqb (howMany (members (getD at v 0))) d) (nodesIn nodes)

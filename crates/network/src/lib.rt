@@ -199,7 +199,7 @@ impl Network {
         if let search::Found::At(i) = search::first_loop(alive, &self.a, &self.b) {
             return Step::Loop(i);
         }
-        if nodes == 0 || bits::without_lowest(nodes) == 0 {
+        if search::at_most_one(nodes) {
             return Step::OneNode;
         }
         let at = search::incidence(alive, &self.a, &self.b);
@@ -209,10 +209,10 @@ impl Network {
         if let search::Pair::Both(i, j) = search::first_pair(alive, &at, &self.a, &self.b) {
             return Step::Parallel(i, j);
         }
-        if let search::Found::At(v) = search::lowest_with_one(nodes, &at) {
+        if let search::Found::At(v) = search::lowest_with(1, nodes, &at) {
             return Step::End(v, bits::lowest(at[v]));
         }
-        if let search::Found::At(v) = search::lowest_with_two(nodes, &at) {
+        if let search::Found::At(v) = search::lowest_with(2, nodes, &at) {
             let s = at[v];
             return Step::Series(v, bits::lowest(s), bits::lowest(bits::without_lowest(s)));
         }

@@ -1,9 +1,11 @@
 // The searches over the links in use, by place.
 ghost use mathlib.Core.Path.{_≡_};
 ghost use Prim.Native.Nat.{_^_, _<_};
-ghost use Rattle.bits.specs.Members.{members};
+ghost use lib.Dec.{eqb, leb};
+ghost use lib.ListN.{length};
+ghost use Rattle.bits.specs.Members.{members, howMany};
 ghost use Rattle.reliability.specs.Networks.{connected};
-ghost use Rattle.network.specs.Places.{pick, nodesIn, joints, marked, touching, Incidence, Bounded, Ended};
+ghost use Rattle.network.specs.Places.{pick, nodesIn, placesIn, joints, Incidence, Bounded, Ended, found, loops, beside, pairIn, withLinks};
 
 pub enum Found {
     At(usize),
@@ -16,7 +18,9 @@ pub enum Pair {
 }
 
 // The first link that joins a node to itself.
-pub fn first_loop<'r>(alive: u64, a: &'r [u8; 64], b: &'r [u8; 64]) -> Found {
+pub fn first_loop<'r>(alive: u64, a: &'r [u8; 64], b: &'r [u8; 64]) -> Found
+    ensures { λ r. ⌜ r ≡ found (loops alive (now (a .entry)) (now (b .entry))) ⌝ }
+{
     let mut t = alive;
     while t != 0 {
         let k = bits::lowest(t);
@@ -30,7 +34,7 @@ pub fn first_loop<'r>(alive: u64, a: &'r [u8; 64], b: &'r [u8; 64]) -> Found {
 
 // The places of the links at each node.
 pub fn incidence<'r>(alive: u64, a: &'r [u8; 64], b: &'r [u8; 64]) -> [u64; 32]
-    requires { ⌜ Bounded alive (now a) (now b) ⌝ }
+    requires { ⌜ (length (now a) ≡ 64) × (length (now b) ≡ 64) × Bounded alive (now a) (now b) ⌝ }
     ensures { λ r. ⌜ Incidence r alive (now (a .entry)) (now (b .entry)) ⌝ }
 {
     let mut at = [0u64; 32];
@@ -79,7 +83,10 @@ pub fn connects<'r>(
 }
 
 // The first link with a partner, and its earliest partner.
-pub fn first_pair<'r>(alive: u64, at: &'r [u64; 32], a: &'r [u8; 64], b: &'r [u8; 64]) -> Pair {
+pub fn first_pair<'r>(alive: u64, at: &'r [u64; 32], a: &'r [u8; 64], b: &'r [u8; 64]) -> Pair
+    requires { ⌜ Bounded alive (now a) (now b) × Incidence (now at) alive (now a) (now b) ⌝ }
+    ensures { λ r. ⌜ r ≡ pairIn (beside (now (a .entry)) (now (b .entry))) (placesIn alive) ⌝ }
+{
     let mut t = alive;
     while t != 0 {
         let i = bits::lowest(t);
@@ -92,31 +99,42 @@ pub fn first_pair<'r>(alive: u64, at: &'r [u64; 32], a: &'r [u8; 64], b: &'r [u8
     Pair::Neither
 }
 
-fn is_one(s: u64) -> bool {
+// Whether s has one place at most.
+pub fn at_most_one(s: u64) -> bool
+    ensures { λ r. ⌜ r ≡ leb (howMany (members s)) 1 ⌝ }
+{
+    s == 0 || bits::without_lowest(s) == 0
+}
+
+fn is_one(s: u64) -> bool
+    ensures { λ r. ⌜ r ≡ eqb (howMany (members s)) 1 ⌝ }
+{
     s != 0 && bits::without_lowest(s) == 0
 }
 
-fn is_two(s: u64) -> bool {
+fn is_two(s: u64) -> bool
+    ensures { λ r. ⌜ r ≡ eqb (howMany (members s)) 2 ⌝ }
+{
     s != 0 && is_one(bits::without_lowest(s))
 }
 
-pub fn lowest_with_one(nodes: u64, at: &[u64; 32]) -> Found {
-    let mut t = nodes;
-    while t != 0 {
-        let v = bits::lowest(t);
-        if is_one(at[v]) {
-            return Found::At(v);
-        }
-        t = bits::without_lowest(t);
-    }
-    Found::Nothing
+// Whether s has d places, one or two.
+fn has_places(s: u64, d: u32) -> bool
+    requires { ⌜ (0 < d) × (d < 3) ⌝ }
+    ensures { λ r. ⌜ r ≡ eqb (howMany (members s)) d ⌝ }
+{
+    if d == 1 { is_one(s) } else { is_two(s) }
 }
 
-pub fn lowest_with_two(nodes: u64, at: &[u64; 32]) -> Found {
+// The lowest node with d links, one or two.
+pub fn lowest_with(d: u32, nodes: u64, at: &[u64; 32]) -> Found
+    requires { ⌜ (0 < d) × (d < 3) × (nodes < 2 ^ 32) ⌝ }
+    ensures { λ r. ⌜ r ≡ found (withLinks d (now (at .entry)) nodes) ⌝ }
+{
     let mut t = nodes;
     while t != 0 {
         let v = bits::lowest(t);
-        if is_two(at[v]) {
+        if has_places(at[v], d) {
             return Found::At(v);
         }
         t = bits::without_lowest(t);

@@ -9,7 +9,8 @@ use borrow.Author.Needs.{needs}
 use Rattle.bits.specs.Members.{members, howMany}
 use Rattle.bits.proofs.Digits.{lowest-set}
 use Rattle.bits.proofs.Places.{count-cleared}
-use Rattle.network.proofs.Flood.{has, has-none, has-below, has-with, has-without, has-zip, full, at-node, Flood, starts, near-ends, follow, all-seen, cut-off}
+use Rattle.network.proofs.Sets.{has, has-none, has-below, has-with, has-without, has-zip, full, at-node}
+use Rattle.network.proofs.Flood.{Flood, starts, near-ends, follow, all-seen, cut-off}
 use Rattle.network.proofs.search.connects.Statement.{statement}
 use Rattle.network.proofs.search.connects.Tie as tie
 
