@@ -18,7 +18,7 @@ use Rattle.network.specs.declared.Network.{Network}
 use Rattle.network.specs.declared.search.Found.the-variants.{At, Nothing}
 use Rattle.network.specs.Places.{pick, from, placesIn, rows, networkOf, linksOf, joints, Bounded, Ended, filter, found}
 use Rattle.network.proofs.Sets.{has, has-place, has-below, mem-has}
-use Rattle.network.proofs.Picks.{Sized, row, rowAt, allRows, length-all, rows-at, pick-map, proper-row}
+use Rattle.network.proofs.Picks.{Sized, row, rowAt, allRows, all-even, length-all, rows-at, pick-map, proper-row}
 
 -- ---- the places of a set, ascending
 
@@ -206,14 +206,7 @@ module _ (n : Network) (sized : Sized n) where
 
   -- also past the last place
   pub all-at : (k : ℕ) → nth (allRows n) k ≡ rowAt n k
-  all-at k = go (decLt k 64)
-    where
-      go : Dec (k < 64) → nth (allRows n) k ≡ rowAt n k
-      go (yes h) = rows-at k (n .a) (n .b) (n .low) (n .high) (omega (arith, length-all n sized))
-      go (no h) =
-          let past : (l : List ℕ) → length l ≡ 64 → 0 ≡ getD l k 0 = λ l e. sym (List·getD-eq-default l 0 (omega arith)) in
-          List·getD-eq-default (allRows n) (row 0 0 0 0) (omega (arith, length-all n sized))
-          ∙ (λ i. row (past (n .a) (sized .a-length) i) (past (n .b) (sized .b-length) i) (past (n .low) (sized .low-length) i) (past (n .high) (sized .high-length) i))
+  all-at k = rows-at (all-even n sized) k
 
   module _ (valid : Valid (networkOf n)) where
     pub ended : Ended (n .nodes) (n .alive) (n .a) (n .b)
