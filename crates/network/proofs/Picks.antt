@@ -28,11 +28,10 @@ module _ {A : Type 0} where
   -- to clear a place takes out what stood there
   pub pick-cleared : (p : ℕ) (bs : List Bool) (xs : List A) → getD bs p false ≡ true → pick (set bs p false) xs ≡ deleteAt (rank p bs) (pick bs xs)
   unfolding pick rank deleteAt
-  pick-cleared p [] xs h = absurd (true≢false (sym h))
+  pick-cleared p [] xs h = refl
   pick-cleared zero (b ∷ bs) [] h = refl
   pick-cleared (suc p) (b ∷ bs) [] h = refl
-  pick-cleared zero (true ∷ bs) (x ∷ xs) h = refl
-  pick-cleared zero (false ∷ bs) (x ∷ xs) h = absurd (true≢false (sym h))
+  pick-cleared zero (b ∷ bs) (x ∷ xs) h = rw h
   pick-cleared (suc p) (true ∷ bs) (x ∷ xs) h = ap (λ r. x ∷ r) (pick-cleared p bs xs h)
   pick-cleared (suc p) (false ∷ bs) (x ∷ xs) h = pick-cleared p bs xs h
 
@@ -40,8 +39,7 @@ module _ {A : Type 0} where
   unfolding pick rank
   pick-set p [] xs y h = refl
   pick-set p (b ∷ bs) [] y h = refl
-  pick-set zero (true ∷ bs) (x ∷ xs) y h = refl
-  pick-set zero (false ∷ bs) (x ∷ xs) y h = absurd (true≢false (sym h))
+  pick-set zero (b ∷ bs) (x ∷ xs) y h = rw h
   pick-set (suc p) (true ∷ bs) (x ∷ xs) y h = ap (λ r. x ∷ r) (pick-set p bs xs y h)
   pick-set (suc p) (false ∷ bs) (x ∷ xs) y h = pick-set p bs xs y h
 
@@ -49,8 +47,7 @@ module _ {A : Type 0} where
   unfolding pick rank
   pick-at p [] xs z h = absurd (true≢false (sym h))
   pick-at p (b ∷ bs) [] z h = refl
-  pick-at zero (true ∷ bs) (x ∷ xs) z h = refl
-  pick-at zero (false ∷ bs) (x ∷ xs) z h = absurd (true≢false (sym h))
+  pick-at zero (b ∷ bs) (x ∷ xs) z h = rw h
   pick-at (suc p) (true ∷ bs) (x ∷ xs) z h = pick-at p bs xs z h
   pick-at (suc p) (false ∷ bs) (x ∷ xs) z h = pick-at p bs xs z h
 
@@ -58,8 +55,7 @@ module _ {A : Type 0} where
   unfolding pick rank
   rank-within p [] xs h k = absurd (true≢false (sym h))
   rank-within p (b ∷ bs) [] h k = absurd (not-suc-le-zero k)
-  rank-within zero (true ∷ bs) (x ∷ xs) h k = suc-le-suc zero-le
-  rank-within zero (false ∷ bs) (x ∷ xs) h k = absurd (true≢false (sym h))
+  rank-within zero (b ∷ bs) (x ∷ xs) h k = rw h (suc-le-suc zero-le)
   rank-within (suc p) (true ∷ bs) (x ∷ xs) h k = suc-le-suc (rank-within p bs xs h (le-of-suc-le-suc k))
   rank-within (suc p) (false ∷ bs) (x ∷ xs) h k = rank-within p bs xs h (le-of-suc-le-suc k)
 
@@ -100,55 +96,55 @@ rank-first (suc p) (suc n) k h = ap suc (rank-first p n k (le-of-suc-le-suc h))
 abbrev pub row : ℕ → ℕ → ℕ → ℕ → Link
 row a b l h = record { a = a; b = b; low = l; high = h }
 
--- all four arrays written at one place
-pub rows-set : (i : ℕ) (e : Link) (a b l h : List ℕ) → rows (set a i (e .a)) (set b i (e .b)) (set l i (e .low)) (set h i (e .high)) ≡ set (rows a b l h) i e
-unfolding rows
-rows-set i e [] b l h = refl
-rows-set zero e (x ∷ a) [] l h = refl
-rows-set (suc i) e (x ∷ a) [] l h = refl
-rows-set zero e (x ∷ a) (y ∷ b) [] h = refl
-rows-set (suc i) e (x ∷ a) (y ∷ b) [] h = refl
-rows-set zero e (x ∷ a) (y ∷ b) (u ∷ l) [] = refl
-rows-set (suc i) e (x ∷ a) (y ∷ b) (u ∷ l) [] = refl
-rows-set zero e (x ∷ a) (y ∷ b) (u ∷ l) (v ∷ h) = refl
-rows-set (suc i) e (x ∷ a) (y ∷ b) (u ∷ l) (v ∷ h) = ap (λ (r : List Link). row x y u v ∷ r) (rows-set i e a b l h)
+-- four arrays of one length
+pub data Even : List ℕ → List ℕ → List ℕ → List ℕ → Type 0 where
+  none : Even [] [] [] []
+  more : {x y u v : ℕ} {a b l h : List ℕ} → Even a b l h → Even (x ∷ a) (y ∷ b) (u ∷ l) (v ∷ h)
 
--- both ends mapped
-pub rows-map : (f : ℕ → ℕ) (a b l h : List ℕ) → rows (map f a) (map f b) l h ≡ map (λ e. row (f (e .a)) (f (e .b)) (e .low) (e .high)) (rows a b l h)
-unfolding rows
-rows-map f [] b l h = refl
-rows-map f (x ∷ a) [] l h = refl
-rows-map f (x ∷ a) (y ∷ b) [] h = refl
-rows-map f (x ∷ a) (y ∷ b) (u ∷ l) [] = refl
-rows-map f (x ∷ a) (y ∷ b) (u ∷ l) (v ∷ h) = ap (λ (r : List Link). row (f x) (f y) u v ∷ r) (rows-map f a b l h)
+pub even : (n : ℕ) (a b l h : List ℕ) → length a ≡ n → length b ≡ n → length l ≡ n → length h ≡ n → Even a b l h
+even n [] [] [] [] ha hb hl hh = none
+even n [] (y ∷ b) l h ha hb hl hh = absurd (omega arith)
+even n [] [] (u ∷ l) h ha hb hl hh = absurd (omega arith)
+even n [] [] [] (v ∷ h) ha hb hl hh = absurd (omega arith)
+even n (x ∷ a) [] l h ha hb hl hh = absurd (omega arith)
+even n (x ∷ a) (y ∷ b) [] h ha hb hl hh = absurd (omega arith)
+even n (x ∷ a) (y ∷ b) (u ∷ l) [] ha hb hl hh = absurd (omega arith)
+even n (x ∷ a) (y ∷ b) (u ∷ l) (v ∷ h) ha hb hl hh = more (even (length a) a b l h refl (omega arith) (omega arith) (omega arith))
 
-pub length-rows : (n : ℕ) (a b l h : List ℕ) → length a ≡ n → length b ≡ n → length l ≡ n → length h ≡ n → length (rows a b l h) ≡ n
+pub length-rows : {a b l h : List ℕ} → Even a b l h → length (rows a b l h) ≡ length a
 unfolding rows
-length-rows n [] b l h ha hb hl hh = ha
-length-rows n (x ∷ a) [] l h ha hb hl hh = hb
-length-rows n (x ∷ a) (y ∷ b) [] h ha hb hl hh = hl
-length-rows n (x ∷ a) (y ∷ b) (u ∷ l) [] ha hb hl hh = hh
-length-rows zero (x ∷ a) (y ∷ b) (u ∷ l) (v ∷ h) ha hb hl hh = absurd (omega arith)
-length-rows (suc n) (x ∷ a) (y ∷ b) (u ∷ l) (v ∷ h) ha hb hl hh = ap suc (length-rows n a b l h (omega arith) (omega arith) (omega arith) (omega arith))
+length-rows none = refl
+length-rows (more e) = ap suc (length-rows e)
 
-pub rows-at : (i : ℕ) (a b l h : List ℕ) → i < length (rows a b l h) → getD (rows a b l h) i (row 0 0 0 0) ≡ row (getD a i 0) (getD b i 0) (getD l i 0) (getD h i 0)
+pub rows-at : {a b l h : List ℕ} → Even a b l h → (i : ℕ) → getD (rows a b l h) i (row 0 0 0 0) ≡ row (getD a i 0) (getD b i 0) (getD l i 0) (getD h i 0)
 unfolding rows
-rows-at i [] b l h k = absurd (not-suc-le-zero k)
-rows-at i (x ∷ a) [] l h k = absurd (not-suc-le-zero k)
-rows-at i (x ∷ a) (y ∷ b) [] h k = absurd (not-suc-le-zero k)
-rows-at i (x ∷ a) (y ∷ b) (u ∷ l) [] k = absurd (not-suc-le-zero k)
-rows-at zero (x ∷ a) (y ∷ b) (u ∷ l) (v ∷ h) k = refl
-rows-at (suc i) (x ∷ a) (y ∷ b) (u ∷ l) (v ∷ h) k = rows-at i a b l h (le-of-suc-le-suc k)
+rows-at none i = refl
+rows-at (more e) zero = refl
+rows-at (more e) (suc i) = rows-at e i
+
+-- all four written at one place
+pub rows-set : {a b l h : List ℕ} → Even a b l h → (i : ℕ) (e : Link) → rows (set a i (e .a)) (set b i (e .b)) (set l i (e .low)) (set h i (e .high)) ≡ set (rows a b l h) i e
+unfolding rows
+rows-set none i e = refl
+rows-set (more s) zero e = refl
+rows-set (more {x} {y} {u} {v} s) (suc i) e = ap (λ (r : List Link). row x y u v ∷ r) (rows-set s i e)
 
 -- the values alone written
-pub rows-values : (i x y : ℕ) (a b l h : List ℕ) → rows a b (set l i x) (set h i y) ≡ set (rows a b l h) i (row (getD a i 0) (getD b i 0) x y)
-rows-values i x y a b l h =
-    ap₂ (λ as₁ bs. rows as₁ bs (set l i x) (set h i y)) (sym (set-getD a i 0)) (sym (set-getD b i 0)) ∙ rows-set i (row (getD a i 0) (getD b i 0) x y) a b l h
+pub rows-values : {a b l h : List ℕ} → Even a b l h → (i x y : ℕ) → rows a b (set l i x) (set h i y) ≡ set (rows a b l h) i (row (getD a i 0) (getD b i 0) x y)
+rows-values {a} {b} {l} {h} s i x y =
+    ap₂ (λ as₁ bs. rows as₁ bs (set l i x) (set h i y)) (sym (set-getD a i 0)) (sym (set-getD b i 0)) ∙ rows-set s i (row (getD a i 0) (getD b i 0) x y)
+
+-- both ends mapped
+pub rows-map : {a b l h : List ℕ} → Even a b l h → (f : ℕ → ℕ) → rows (map f a) (map f b) l h ≡ map (λ e. row (f (e .a)) (f (e .b)) (e .low) (e .high)) (rows a b l h)
+unfolding rows
+rows-map none f = refl
+rows-map (more {x} {y} {u} {v} s) f = ap (λ (r : List Link). row (f x) (f y) u v ∷ r) (rows-map s f)
 
 -- ---- the links of a network
 
--- its arrays are full
+-- what holds of every network that is a value: its arrays are full, and it has at most 32 nodes
 pub record Sized (n : Network) : Type 0 where
+  pub nodes : n .nodes < 2 ^ 32
   pub a-length : length (n .a) ≡ 64
   pub b-length : length (n .b) ≡ 64
   pub low-length : length (n .low) ≡ 64
@@ -162,12 +158,14 @@ abbrev pub rowAt : Network → ℕ → Link
 rowAt n i = row (getD (n .a) i 0) (getD (n .b) i 0) (getD (n .low) i 0) (getD (n .high) i 0)
 
 module _ (n : Network) (sized : Sized n) where
+  pub all-even : Even (n .a) (n .b) (n .low) (n .high)
+  all-even = even 64 (n .a) (n .b) (n .low) (n .high) (sized .a-length) (sized .b-length) (sized .low-length) (sized .high-length)
+
   pub length-all : length (allRows n) ≡ 64
-  length-all = length-rows 64 (n .a) (n .b) (n .low) (n .high) (sized .a-length) (sized .b-length) (sized .low-length) (sized .high-length)
+  length-all = length-rows all-even ∙ sized .a-length
 
   pub link-at : (i : ℕ) → Used n i → linkAt (networkOf n) (indexOf n i) ≡ rowAt n i
-  link-at i u =
-      pick-at i (members (n .alive)) (allRows n) (row 0 0 0 0) (u .used) ∙ rows-at i (n .a) (n .b) (n .low) (n .high) (omega (arith, u .below, length-all))
+  link-at i u = pick-at i (members (n .alive)) (allRows n) (row 0 0 0 0) (u .used) ∙ rows-at all-even i
 
   pub proper-row : Valid (networkOf n) → (i : ℕ) → Used n i → Proper (nodesOf n) (rowAt n i)
   proper-row valid i u =

@@ -9,7 +9,7 @@ ghost use lib.Dec.{eqb};
 ghost use Prim.Native.Nat.{_+_, _≤_, _<_};
 ghost use Rattle.reliability.specs.Networks.{Valid, linkAt};
 ghost use Rattle.reliability.specs.Rule.{rename, renamed, next, deleteAt, without, deleted, removed, joined, inParallel, inSeries, contracted};
-ghost use Rattle.network.specs.Places.{networkOf, linksOf, nodesOf, from, indexOf, Used, Built, ranked, Placed};
+ghost use Rattle.network.specs.Places.{networkOf, linksOf, nodesOf, nodesIn, from, indexOf, Used, Built, ranked, Placed};
 
 mod search;
 
@@ -48,6 +48,14 @@ fn across(v: u8, a: u8, b: u8) -> u8
     ensures { λ r. ⌜ r ≡ cond (eqb a v) b a ⌝ }
 {
     if a == v { b } else { a }
+}
+
+// The nodes without v.
+fn without_node(nodes: u32, v: usize) -> u32
+    requires { ⌜ v < 64 ⌝ }
+    ensures { λ r. ⌜ nodesIn r ≡ without v (nodesIn nodes) ⌝ }
+{
+    bits::without(nodes as u64, v) as u32
 }
 
 impl Network {
@@ -98,8 +106,8 @@ impl Network {
         requires { ⌜ Used self i ⌝ }
         ensures { λ r. ⌜ networkOf r ≡ deleted (indexOf self i) (networkOf self) ⌝ }
     {
-        let alive = bits::without(self.alive, i);
-        self.alive = alive;
+        let others = bits::without(self.alive, i);
+        self.alive = others;
         self
     }
 
@@ -112,8 +120,8 @@ impl Network {
         let high = rounding::parallel(Direction::Up, self.high[i], self.high[j]);
         self.low[i] = low;
         self.high[i] = high;
-        let alive = bits::without(self.alive, j);
-        self.alive = alive;
+        let others = bits::without(self.alive, j);
+        self.alive = others;
         self
     }
 
@@ -122,9 +130,9 @@ impl Network {
         requires { ⌜ (v < 32) × Used self i ⌝ }
         ensures { λ r. ⌜ networkOf r ≡ removed v (deleted (indexOf self i) (networkOf self)) ⌝ }
     {
-        let nodes = bits::without(self.nodes as u64, v) as u32;
+        let others = without_node(self.nodes, v);
         let alive = bits::without(self.alive, i);
-        self.nodes = nodes;
+        self.nodes = others;
         self.alive = alive;
         self
     }
@@ -142,7 +150,7 @@ impl Network {
         self.b[i] = b;
         self.low[i] = low;
         self.high[i] = high;
-        let nodes = bits::without(self.nodes as u64, v) as u32;
+        let nodes = without_node(self.nodes, v);
         let alive = bits::without(self.alive, j);
         self.nodes = nodes;
         self.alive = alive;
@@ -172,7 +180,7 @@ impl Network {
         let second = self.b;
         let a = all_renamed(first, keep, gone);
         let b = all_renamed(second, keep, gone);
-        let nodes = bits::without(self.nodes as u64, gone as usize) as u32;
+        let nodes = without_node(self.nodes, gone as usize);
         let alive = bits::without(self.alive, i);
         self.a = a;
         self.b = b;

@@ -17,11 +17,11 @@ sized c = search needs
 proper : (c : tie.Start) → Proper (nodesOf (c .args .t1)) (rowAt (c .args .t1) (c .args .i))
 proper c = proper-row (c .args .t1) (sized c) (c .pre .0) (c .args .i) (c .pre .1)
 
--- the smaller end is kept, and the larger goes
-whole : (n r : Network) (i keep gone : ℕ) → Sized n → Used n i → keep ≡ min (rowAt n i .a) (rowAt n i .b) → gone ≡ max (rowAt n i .a) (rowAt n i .b)
+-- the smaller end is kept, the larger goes
+smaller-kept : (n r : Network) (i keep gone : ℕ) → Sized n → Used n i → keep ≡ min (rowAt n i .a) (rowAt n i .b) → gone ≡ max (rowAt n i .a) (rowAt n i .b)
     → (nodesOf r ≡ without gone (nodesOf n)) × (linksOf r ≡ map (renamed keep gone) (deleteAt (indexOf n i) (linksOf n)))
     → networkOf r ≡ contracted (linkAt (networkOf n) (indexOf n i)) (deleted (indexOf n i) (networkOf n))
-whole n r i keep gone full u smaller larger h =
+smaller-kept n r i keep gone full u smaller larger h =
     let g = deleted (indexOf n i) (networkOf n) in
     let merged : networkOf r ≡ record { nodes = without gone (g .nodes); links = map (renamed keep gone) (g .links) } = λ t. record { nodes = h .0 t; links = h .1 t } in
     merged
@@ -47,12 +47,12 @@ merged-requires-2 c κs =
 returns : tie.Need-returns
 returns c =
     let s = c .before .before .before .before in
-    whole (s .args .t1) (c .merged .result) (s .args .i) _ _ (sized s) (s .pre .1) (omega arith) (omega arith) (c .merged .ensures)
+    smaller-kept (s .args .t1) (c .merged .result) (s .args .i) _ _ (sized s) (s .pre .1) (omega arith) (omega arith) (c .merged .ensures)
 
 returns-2 : tie.Need-returns-2
 returns-2 c =
     let s = c .before .before .before .before in
-    whole (s .args .t1) (c .merged2 .result) (s .args .i) _ _ (sized s) (s .pre .1) (omega arith) (omega arith) (c .merged2 .ensures)
+    smaller-kept (s .args .t1) (c .merged2 .result) (s .args .i) _ _ (sized s) (s .pre .1) (omega arith) (omega arith) (c .merged2 .ensures)
 
 pub contracted-spec : {M : Type 1} → statement M
 contracted-spec =

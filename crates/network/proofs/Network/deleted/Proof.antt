@@ -10,7 +10,7 @@ without-requires c κs = search needs
 returns : tie.Need-returns
 returns c =
     let n = c .before .args .self in
-    let links = deleted-links n (c .without .result) (c .before .args .i) (allRows n) (c .before .pre) (c .without .ensures) in
+    let links = deleted-links n _ (c .before .args .i) (allRows n) (c .before .pre) (c .without .ensures) in
     λ t. record { nodes = nodesOf n; links = links t }
 
 pub deleted-spec : {M : Type 1} → statement M

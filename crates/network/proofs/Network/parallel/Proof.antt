@@ -1,13 +1,13 @@
 use Prim.Native.Nat.{_≤_}
 use mathlib.Core.Path.{_≡_}
-use lib.ListN.{getD, set}
+use lib.ListN.{getD}
 use Rattle.rounding.specs.Rounding.{S}
 use Rattle.rounding.specs.declared.Direction.{Direction}
 use Rattle.rounding.specs.declared.Direction.the-variants.{Down, Up}
 use Rattle.reliability.specs.Networks.{value}
 use Rattle.reliability.specs.Rule.{inParallel}
-use Rattle.network.specs.Places.{rows, nodesOf}
-use Rattle.network.proofs.Picks.{Sized, row, rowAt, rows-values, values-within, joined-links}
+use Rattle.network.specs.Places.{nodesOf}
+use Rattle.network.proofs.Picks.{Sized, all-even, row, rowAt, rows-values, values-within, joined-links}
 use borrow.Author.Needs.{needs}
 use Rattle.network.proofs.Network.parallel.Statement.{statement}
 use Rattle.network.proofs.Network.parallel.Tie as tie
@@ -73,8 +73,8 @@ returns c =
     let j = s .args .j in
     let e = row (getD (n .a) i 0) (getD (n .b) i 0) (low .result) (high .result) in
     let made : e ≡ inParallel (rowAt n i) (rowAt n j) = λ t. row (getD (n .a) i 0) (getD (n .b) i 0) (low .ensures t) (high .ensures t) in
-    let written = rows-values i (low .result) (high .result) (n .a) (n .b) (n .low) (n .high) in
-    let links = joined-links n (c .without .result) j (rows (n .a) (n .b) (set (n .low) i (low .result)) (set (n .high) i (high .result))) (s .pre .2) (c .without .ensures) (sized s) i e inParallel (s .pre .1) written made in
+    let written = rows-values (all-even n (sized s)) i (low .result) (high .result) in
+    let links = joined-links n _ j _ (s .pre .2) (c .without .ensures) (sized s) i e inParallel (s .pre .1) written made in
     λ t. record { nodes = nodesOf n; links = links t }
 
 pub parallel-spec : {M : Type 1} → statement M

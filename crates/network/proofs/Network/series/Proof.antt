@@ -1,13 +1,11 @@
 use Prim.Native.Nat.{_≤_}
 use mathlib.Core.Path.{_≡_}
-use lib.ListN.{set}
 use Rattle.rounding.specs.Rounding.{S}
 use Rattle.rounding.specs.declared.Direction.{Direction}
 use Rattle.rounding.specs.declared.Direction.the-variants.{Down, Up}
 use Rattle.reliability.specs.Networks.{value}
 use Rattle.reliability.specs.Rule.{inSeries}
-use Rattle.network.specs.Places.{rows}
-use Rattle.network.proofs.Picks.{Sized, row, rowAt, rows-set, values-within, joined-links, nodes-cleared, cleared-fits}
+use Rattle.network.proofs.Picks.{Sized, all-even, row, rowAt, rows-set, values-within, joined-links}
 use borrow.Author.Needs.{needs}
 use Rattle.network.proofs.Network.series.Statement.{statement}
 use Rattle.network.proofs.Network.series.Tie as tie
@@ -90,23 +88,14 @@ mul-self-2 c = search needs
 element-write-self-4 : tie.Need-element-write-self-4
 element-write-self-4 c = search needs
 
-cast-without : tie.Need-cast-without
-cast-without c = search needs
+without-node-requires : tie.Need-without-node-requires
+without-node-requires c κs = search needs
 
 without-requires : tie.Need-without-requires
 without-requires c κs = search needs
 
-cast-nodes : tie.Need-cast-nodes
-cast-nodes c =
-    let s = c .before .before .before .before .before .before .before .before .before .before .before .before .before in
-    record { fits = cleared-fits (c .without .result) (s .args .t1 .nodes) (s .args .v) (search needs) (search needs) (c .without .ensures) }
-
-without-requires-2 : tie.Need-without-requires-2
-without-requires-2 c κs = search needs
-
 returns : tie.Need-returns
 returns c =
-    let gone = c .before .without in
     let b = c .before .before .across2 in
     let a = c .before .before .before .before .before .across in
     let high = c .before .before .before .before .before .before .before .before .series2 in
@@ -117,11 +106,9 @@ returns c =
     let j = s .args .j in
     let e = row (a .result) (b .result) (low .result) (high .result) in
     let made : e ≡ inSeries (s .args .v) (rowAt n i) (rowAt n j) = λ t. row (a .ensures t) (b .ensures t) (low .ensures t) (high .ensures t) in
-    let xs = rows (set (n .a) i (a .result)) (set (n .b) i (b .result)) (set (n .low) i (low .result)) (set (n .high) i (high .result)) in
-    let written = rows-set i e (n .a) (n .b) (n .low) (n .high) in
-    let nodes = nodes-cleared (gone .result) (n .nodes) (s .args .v) (gone .ensures) in
-    let links = joined-links n (c .without2 .result) j xs (s .pre .3) (c .without2 .ensures) (sized s) i e (inSeries (s .args .v)) (s .pre .2) written made in
-    λ t. record { nodes = nodes t; links = links t }
+    let written = rows-set (all-even n (sized s)) i e in
+    let links = joined-links n _ j _ (s .pre .3) (c .without .ensures) (sized s) i e (inSeries (s .args .v)) (s .pre .2) written made in
+    λ t. record { nodes = c .before .without-node .ensures t; links = links t }
 
 pub series-spec : {M : Type 1} → statement M
 series-spec =
@@ -151,8 +138,6 @@ series-spec =
     element-write-self-3
     mul-self-2
     element-write-self-4
-    cast-without
+    without-node-requires
     without-requires
-    cast-nodes
-    without-requires-2
     returns)
