@@ -12,12 +12,11 @@ use Rattle.bits.proofs.Digits.{length-digits, digits-empty}
 use Rattle.bits.proofs.Places.{first-set, count-cleared}
 use Rattle.reliability.specs.Networks.{Valid, Ends, ends}
 use Rattle.reliability.proofs.Lists.{by-eqb}
-use Rattle.reliability.proofs.Searches.{nth}
 use Rattle.network.specs.declared.Network.{Network}
 use Rattle.network.specs.declared.search.Found.the-variants.{At, Nothing}
 use Rattle.network.specs.Places.{pick, from, placesIn, rows, networkOf, linksOf, joints, Bounded, Ended, filter, found}
 use Rattle.network.proofs.Sets.{has, has-place, has-below, mem-has}
-use Rattle.network.proofs.Picks.{Sized, row, rowAt, allRows, all-even, length-all, rows-at, pick-map, proper-row}
+use Rattle.network.proofs.Picks.{Even, none, more, Sized, allRows, all-even, pick-map, proper-row}
 
 -- ---- the places of a set, ascending
 
@@ -188,24 +187,14 @@ counted-some (suc s) h = omega arith
 
 -- ---- the ends of links by place
 
-rows-joints : (n : ℕ) (as₁ bs ls hs : List ℕ) → length as₁ ≡ n → length bs ≡ n → length ls ≡ n → length hs ≡ n → map ends (rows as₁ bs ls hs) ≡ joints as₁ bs
+rows-joints : {as₁ bs ls hs : List ℕ} → Even as₁ bs ls hs → map ends (rows as₁ bs ls hs) ≡ joints as₁ bs
 unfolding rows joints
-rows-joints n [] bs ls hs i j k l = refl
-rows-joints n (x ∷ as₁) [] ls hs i j k l = refl
-rows-joints n (x ∷ as₁) (y ∷ bs) [] hs i j k l = absurd (omega arith)
-rows-joints n (x ∷ as₁) (y ∷ bs) (v ∷ ls) [] i j k l = absurd (omega arith)
-rows-joints n (x ∷ as₁) (y ∷ bs) (v ∷ ls) (w ∷ hs) i j k l =
-    ap (λ (r : List Ends). record { a = x; b = y } ∷ r) (rows-joints (length as₁) as₁ bs ls hs refl (omega arith) (omega arith) (omega arith))
+rows-joints none = refl
+rows-joints (more {x} {y} e) = ap (λ (r : List Ends). record { a = x; b = y } ∷ r) (rows-joints e)
 
 module _ (n : Network) (sized : Sized n) where
   pub links-joints : map ends (linksOf n) ≡ pick (members (n .alive)) (joints (n .a) (n .b))
-  links-joints =
-      sym (pick-map ends (members (n .alive)) (allRows n))
-      ∙ ap (pick (members (n .alive))) (rows-joints 64 (n .a) (n .b) (n .low) (n .high) (sized .a-length) (sized .b-length) (sized .low-length) (sized .high-length))
-
-  -- also past the last place
-  pub all-at : (k : ℕ) → nth (allRows n) k ≡ rowAt n k
-  all-at k = rows-at (all-even n sized) k
+  links-joints = sym (pick-map ends (members (n .alive)) (allRows n)) ∙ ap (pick (members (n .alive))) (rows-joints (all-even n sized))
 
   module _ (valid : Valid (networkOf n)) where
     pub ended : Ended (n .nodes) (n .alive) (n .a) (n .b)
@@ -213,7 +202,7 @@ module _ (n : Network) (sized : Sized n) where
         let proper = proper-row n sized valid p (record { below = has-place (n .alive) p u; used = u }) in
         (mem-has (n .nodes) (getD (n .a) p 0) (proper .a-node), mem-has (n .nodes) (getD (n .b) p 0) (proper .b-node))
 
-    pub bounded : n .nodes < 2 ^ 32 → Bounded (n .alive) (n .a) (n .b)
-    bounded h p u =
+    pub bounded : Bounded (n .alive) (n .a) (n .b)
+    bounded p u =
         let e = ended p u in
-        (has-below (n .nodes) 32 (getD (n .a) p 0) h (e .0), has-below (n .nodes) 32 (getD (n .b) p 0) h (e .1))
+        (has-below (n .nodes) 32 (getD (n .a) p 0) (sized .nodes) (e .0), has-below (n .nodes) 32 (getD (n .b) p 0) (sized .nodes) (e .1))

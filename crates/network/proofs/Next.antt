@@ -1,5 +1,5 @@
 -- Which step fits, by what the searches find.
-use Prim.Native.Nat.{ℕ, _^_, _≤_, _<_}
+use Prim.Native.Nat.{ℕ, _≤_, _<_}
 use mathlib.Core.Path.{_≡_, refl, sym, ap, subst, _∙_}
 use mathlib.Core.List.{List, [], _∷_, map}
 use mathlib.Core.Bool.{Bool, true, false, and-eq-true-iff}
@@ -56,7 +56,6 @@ pub record Unpaired (n : Network) (at : List ℕ) : Type 0 where
   pub whole : Whole n
   pub no-pair : pairIn (beside (n .a) (n .b)) (placesIn (n .alive)) ≡ Neither
   pub incidence : Incidence at (n .alive) (n .a) (n .b)
-  pub small : n .nodes < 2 ^ 32
 
 module _ (n : Network) (sized : Sized n) where
   pub loop-right : (i : ℕ) → found (loops (n .alive) (n .a) (n .b)) ≡ At i → Right n (Loop i)
@@ -127,7 +126,7 @@ module _ (n : Network) (at : List ℕ) (u : Unpaired n at) where
   pub node : (d v : ℕ) → found (withLinks d at (n .nodes)) ≡ At v → (v < 32) × (first (withLinks d at (n .nodes)) ≡ some v) × (howMany (members (getD at v 0)) ≡ d)
   node d v e =
       let h = hit (λ w. eqb (howMany (members (getD at w 0))) d) (nodesOf n) v e in
-      (has-below (n .nodes) 32 v (u .small) (mem-has (n .nodes) v (h .member)), h .first, eqb-true (howMany (members (getD at v 0))) d (h .test))
+      (has-below (n .nodes) 32 v (u .whole .sized .nodes) (mem-has (n .nodes) v (h .member)), h .first, eqb-true (howMany (members (getD at v 0))) d (h .test))
 
   pub end-right : (v i : ℕ) → found (withLinks 1 at (n .nodes)) ≡ At v → i ≡ firstOf (members (getD at v 0)) → Right n (End v i)
   unfolding ranked Placed
@@ -136,11 +135,11 @@ module _ (n : Network) (at : List ℕ) (u : Unpaired n at) where
       let s = getD at v 0 in
       let l : Lowest s i = record { some = omega arith; first = f } in
       let listed = ap (λ (ks : List ℕ). some (End v (getD (map (indexOf n) ks) 0 0))) (lowest-first s i l) in
-      (sym (by-nodes (some (End v (indexOf n i))) (end-rule n (u .whole .sized) at (u .incidence) (u .small) ∙ ap (Option·map endAt) lowest ∙ listed) _ refl), (below, at-used v i below (lowest-in s i l)))
+      (sym (by-nodes (some (End v (indexOf n i))) (end-rule n (u .whole .sized) at (u .incidence) ∙ ap (Option·map endAt) lowest ∙ listed) _ refl), (below, at-used v i below (lowest-in s i l)))
 
   module _ (no-end : withLinks 1 at (n .nodes) ≡ []) where
     by-series : (series : Option Step) → lowest seriesOf (linksOf n) (nodesOf n) ≡ series → next (networkOf n) ≡ (series otherwise Split (chosen (networkOf n)))
-    by-series = by-nodes none (end-rule n (u .whole .sized) at (u .incidence) (u .small) ∙ ap (λ (l : List ℕ). Option·map endAt (first l)) no-end)
+    by-series = by-nodes none (end-rule n (u .whole .sized) at (u .incidence) ∙ ap (λ (l : List ℕ). Option·map endAt (first l)) no-end)
 
     pub series-right : (v i r j : ℕ) → found (withLinks 2 at (n .nodes)) ≡ At v → i ≡ firstOf (members (getD at v 0))
         → members r ≡ set (members (getD at v 0)) (firstOf (members (getD at v 0))) false → j ≡ firstOf (members r) → Right n (Series v i j)
@@ -151,14 +150,14 @@ module _ (n : Network) (at : List ℕ) (u : Unpaired n at) where
         let l : Lowest s i = record { some = omega arith; first = f } in
         let m : Lowest r j = record { some = omega (arith, rest-count s i l r rest); first = g } in
         let listed = ap (λ (ks : List ℕ). some (Series v (getD (map (indexOf n) ks) 0 0) (getD (map (indexOf n) ks) 1 0))) (lowest-rest s i l r rest ∙ ap (λ (ks : List ℕ). i ∷ ks) (lowest-first r j m)) in (
-          sym (by-series (some (Series v (indexOf n i) (indexOf n j))) (series-rule n (u .whole .sized) at (u .incidence) (u .small) ∙ ap (Option·map seriesAt) lowest ∙ listed)),
+          sym (by-series (some (Series v (indexOf n i) (indexOf n j))) (series-rule n (u .whole .sized) at (u .incidence) ∙ ap (Option·map seriesAt) lowest ∙ listed)),
           (below, at-used v i below (lowest-in s i l), at-used v j below (rest-within s i l r rest s (λ k e. e) j (lowest-in r j m))),
         )
 
     pub split-right : Valid (networkOf n) → withLinks 2 at (n .nodes) ≡ [] → (k : ℕ) → k ≡ firstOf (members (n .alive)) → Right n (Split k)
     unfolding ranked Placed
     split-right valid no-series k f =
-        let e : next (networkOf n) ≡ Split 0 = by-series none (series-rule n (u .whole .sized) at (u .incidence) (u .small) ∙ ap (λ (l : List ℕ). Option·map seriesAt (first l)) no-series) in
+        let e : next (networkOf n) ≡ Split 0 = by-series none (series-rule n (u .whole .sized) at (u .incidence) ∙ ap (λ (l : List ℕ). Option·map seriesAt (first l)) no-series) in
         let place = subst (Fits (networkOf n)) e (fits (networkOf n) valid) .place in
         let l : Lowest (n .alive) k = record { some = omega (arith, pick-count (members (n .alive)) (allRows n)); first = f } in
         (ap Split (ap (indexOf n) f ∙ rank-lowest (members (n .alive))) ∙ sym e, place-used n k (lowest-in (n .alive) k l))

@@ -1,5 +1,5 @@
 -- The rule's own searches, by places.
-use Prim.Native.Nat.{ℕ, zero, suc, _^_, _≤_, _<_}
+use Prim.Native.Nat.{ℕ, zero, suc, _≤_, _<_}
 use mathlib.Core.Path.{_≡_, refl, sym, ap, ap₂, fun-ext, _∙_}
 use mathlib.Core.List.{List, [], _∷_, map, map-map, List·Memᴰ, List·Memᴰ·head, List·Memᴰ·tail}
 use mathlib.Core.Bool.{Bool, true, false, not, _&&_, _||_, and-false, or-false}
@@ -23,8 +23,8 @@ use Rattle.network.specs.declared.search.Pair.{Pair}
 use Rattle.network.specs.declared.search.Pair.the-variants.{Both, Neither}
 use Rattle.network.specs.Places.{pick, rank, placesIn, linksOf, nodesOf, indexOf, touching, Incidence, filter, found, loops, beside, pairIn, withLinks}
 use Rattle.network.proofs.Sets.{has-below, mem-has, at-node}
-use Rattle.network.proofs.Picks.{Sized, allRows, rowAt, length-all}
-use Rattle.network.proofs.Marks.{indices, places-listed, filter-suc, filter-here, filter-past, filter-indices, same-test, all-at}
+use Rattle.network.proofs.Picks.{rows-at, Sized, allRows, rowAt, all-even, length-all}
+use Rattle.network.proofs.Marks.{indices, places-listed, filter-suc, filter-here, filter-past, filter-indices, same-test}
 
 -- ---- lists of links
 
@@ -242,7 +242,7 @@ module _ (n : Network) (sized : Sized n) where
   among : (p : Link → Bool) → places p (linksOf n) ≡ map (indexOf n) (filter (λ k. p (rowAt n k)) (placesIn (n .alive)))
   among p =
       places-pick p (members (n .alive)) (allRows n) (omega (arith, length-digits 64 (n .alive), length-all n sized))
-      ∙ ap₂ (λ (t : ℕ → Bool) (ks : List ℕ). map (indexOf n) (filter t ks)) (fun-ext (λ k. ap p (all-at n sized k))) (sym (places-listed (n .alive)))
+      ∙ ap₂ (λ (t : ℕ → Bool) (ks : List ℕ). map (indexOf n) (filter t ks)) (fun-ext (λ k. ap p (rows-at (all-even n sized) k))) (sym (places-listed (n .alive)))
 
   pub loop-rule : firstAt isLoop (linksOf n) ≡ Option·map (indexOf n) (first (loops (n .alive) (n .a) (n .b)))
   loop-rule = first-place isLoop (linksOf n) ∙ ap first (among isLoop) ∙ first-map (indexOf n) (loops (n .alive) (n .a) (n .b))
@@ -250,7 +250,7 @@ module _ (n : Network) (sized : Sized n) where
   pub pair-rule : loops (n .alive) (n .a) (n .b) ≡ [] → firstPair (linksOf n) ≡ paired (members (n .alive)) (pairIn (beside (n .a) (n .b)) (placesIn (n .alive)))
   pair-rule no-loop =
       pair-pick (members (n .alive)) (allRows n) (omega (arith, length-digits 64 (n .alive), length-all n sized))
-      ∙ ap₂ (λ (t : ℕ → ℕ → Bool) (ks : List ℕ). paired (members (n .alive)) (pairIn t ks)) (fun-ext (λ i. fun-ext (λ j. ap₂ alike (all-at n sized i) (all-at n sized j)))) (sym (places-listed (n .alive)))
+      ∙ ap₂ (λ (t : ℕ → ℕ → Bool) (ks : List ℕ). paired (members (n .alive)) (pairIn t ks)) (fun-ext (λ i. fun-ext (λ j. ap₂ alike (rows-at (all-even n sized) i) (rows-at (all-even n sized) j)))) (sym (places-listed (n .alive)))
       ∙ ap (paired (members (n .alive)))
       (pair-same (λ i j. alike (rowAt n i) (rowAt n j)) (beside (n .a) (n .b)) (placesIn (n .alive))
       (λ i m j. alike-ends (getD (n .a) i 0) (getD (n .b) i 0) (getD (n .a) j 0) (getD (n .b) j 0)
@@ -268,19 +268,17 @@ module _ (n : Network) (sized : Sized n) where
 
     -- a rule that fits a node with d links
     module _ (rule : ℕ → List ℕ → Option Step) (d : ℕ) (g : ℕ → List ℕ → Step) (fits : (v : ℕ) (is : List ℕ) → rule v is ≡ when (eqb (length is) d) (g v is)) where
-      lowest-rule : n .nodes < 2 ^ 32 → lowest rule (linksOf n) (nodesOf n) ≡ Option·map (λ v. g v (map (indexOf n) (placesIn (getD at v 0)))) (first (withLinks d at (n .nodes)))
-      lowest-rule small =
+      lowest-rule : lowest rule (linksOf n) (nodesOf n) ≡ Option·map (λ v. g v (map (indexOf n) (placesIn (getD at v 0)))) (first (withLinks d at (n .nodes)))
+      lowest-rule =
           lowest-where rule (linksOf n) (λ v. eqb (howMany (members (getD at v 0))) d) (λ v. g v (map (indexOf n) (placesIn (getD at v 0)))) (nodesOf n)
           (λ v m. let s = getD at v 0 in
-          ap (rule v) (node-places v (has-below (n .nodes) 32 v small (mem-has (n .nodes) v m)))
+          ap (rule v) (node-places v (has-below (n .nodes) 32 v (sized .nodes) (mem-has (n .nodes) v m)))
           ∙ fits v (map (indexOf n) (placesIn s))
           ∙ ap (λ (l : ℕ). when (eqb l d) (g v (map (indexOf n) (placesIn s)))) (length-map (placesIn s) (indexOf n) ∙ length-places s))
 
-    pub end-rule : n .nodes < 2 ^ 32
-        → lowest endOf (linksOf n) (nodesOf n) ≡ Option·map (λ v. End v (getD (map (indexOf n) (placesIn (getD at v 0))) 0 0)) (first (withLinks 1 at (n .nodes)))
+    pub end-rule : lowest endOf (linksOf n) (nodesOf n) ≡ Option·map (λ v. End v (getD (map (indexOf n) (placesIn (getD at v 0))) 0 0)) (first (withLinks 1 at (n .nodes)))
     end-rule = lowest-rule endOf 1 (λ v is. End v (getD is 0 0)) end-list
 
-    pub series-rule : n .nodes < 2 ^ 32
-        → lowest seriesOf (linksOf n) (nodesOf n)
+    pub series-rule : lowest seriesOf (linksOf n) (nodesOf n)
         ≡ Option·map (λ v. let is = map (indexOf n) (placesIn (getD at v 0)) in Series v (getD is 0 0) (getD is 1 0)) (first (withLinks 2 at (n .nodes)))
     series-rule = lowest-rule seriesOf 2 (λ v is. Series v (getD is 0 0) (getD is 1 0)) series-list

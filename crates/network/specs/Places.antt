@@ -35,9 +35,13 @@ unfoldable pub from : ℕ → ℕ → List ℕ
 from i zero = []
 from i (suc k) = i ∷ from (suc i) k
 
+-- the places of a set
+abbrev pub placesIn : ℕ → List ℕ
+placesIn s = pick (members s) (from 0 64)
+
 -- the nodes of a set
 abbrev pub nodesIn : ℕ → List ℕ
-nodesIn s = pick (members s) (from 0 64)
+nodesIn = placesIn
 
 -- the links of four arrays, by place
 unfoldable pub rows : List ℕ → List ℕ → List ℕ → List ℕ → List Link
@@ -122,16 +126,12 @@ joints (a ∷ as₁) [] = []
 
 -- ---- what the searches find
 
--- the places of a set
-abbrev pub placesIn : ℕ → List ℕ
-placesIn s = pick (members s) (from 0 64)
-
--- those at which a test holds
+-- of a list of places those at which a test holds
 unfoldable pub filter : (ℕ → Bool) → List ℕ → List ℕ
 filter p [] = []
 filter p (k ∷ ks) = elim (p k) [ true ↦ k ∷ filter p ks | false ↦ filter p ks ]
 
--- the first of them
+-- the first of a list
 abbrev pub found : List ℕ → Found
 found [] = Nothing
 found (k ∷ ks) = At k

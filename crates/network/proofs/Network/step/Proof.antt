@@ -1,4 +1,4 @@
-use Prim.Native.Nat.{_^_, _<_}
+use Prim.Native.Nat.{_<_}
 use mathlib.Core.Path.{_≡_, sym, _∙_}
 use mathlib.Core.List.{[]}
 use mathlib.Core.Bool.{false}
@@ -18,9 +18,6 @@ use Rattle.network.proofs.Network.step.Tie as tie
 
 sized : (c : tie.Start) → Sized (c .args .t1)
 sized c = search needs
-
-small : (c : tie.Start) → c .args .t1 .nodes < 2 ^ 32
-small c = search needs
 
 -- ---- what each test has shown
 
@@ -60,7 +57,6 @@ unpaired c =
       whole = whole e;
       no-pair = sym (c .before .before .first-pair .ensures) ∙ c .enum-told2 .given .1;
       incidence = gathered e .incidence .ensures;
-      small = small (whole-start e);
     }
 
 abbrev paired-at : tie.After-enum-told3 → tie.After-enum-told2
@@ -102,13 +98,13 @@ incidence-requires : tie.Need-incidence-requires
 incidence-requires c κs =
     let s = nodes-start (c .before .before .before) in
     let full = sized s in
-    (full .a-length, full .b-length, bounded (s .args .t1) full (s .pre) (small s))
+    (full .a-length, full .b-length, bounded (s .args .t1) full (s .pre))
 
 connects-requires : tie.Need-connects-requires
 connects-requires c κs =
     let i = c .before .before .before .before in
     let s = nodes-start (tested i) in
-    (counted-some (s .args .t1 .nodes) (omega (arith, leb-false (howMany (members (s .args .t1 .nodes))) 1 (more (tested i)))), small s, i .incidence .ensures, ended (s .args .t1) (sized s) (s .pre))
+    (counted-some (s .args .t1 .nodes) (omega (arith, leb-false (howMany (members (s .args .t1 .nodes))) 1 (more (tested i)))), sized s .nodes, i .incidence .ensures, ended (s .args .t1) (sized s) (s .pre))
 
 returns-3 : tie.Need-returns-3
 returns-3 c =
@@ -120,7 +116,7 @@ first-pair-requires : tie.Need-first-pair-requires
 first-pair-requires c κs =
     let e = c .before .before .before .before in
     let s = whole-start e in
-    (bounded (s .args .t1) (sized s) (s .pre) (small s), gathered e .incidence .ensures)
+    (bounded (s .args .t1) (sized s) (s .pre), gathered e .incidence .ensures)
 
 enum-known-i-2 : tie.Need-enum-known-i-2
 enum-known-i-2 c = search needs
@@ -166,7 +162,7 @@ enum-told-3 c = search needs
 lowest-with-requires-2 : tie.Need-lowest-with-requires-2
 lowest-with-requires-2 c κs =
     let e = connected-at (paired-at (c .before)) in
-    (omega arith, omega arith, small (whole-start e))
+    (omega arith, omega arith, sized (whole-start e) .nodes)
 
 enum-known-v-2 : tie.Need-enum-known-v-2
 enum-known-v-2 c = search needs
