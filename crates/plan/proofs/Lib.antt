@@ -1,3 +1,5 @@
 pub mod Verdicts
 pub mod Links
 pub mod Examples
+pub mod Reading
+pub mod Calling
