@@ -5,8 +5,10 @@ ghost use Prim.Native.Nat.{_+_, _*_, _≤_, _<_};
 ghost use lib.ListN.{length};
 ghost use Rattle.plan.specs.Plans.{byte, word16, word32, sizeN, sizeM, firstEnd, secondEnd, fileValue, rated, unitsOf, linkVerdict, linksVerdict, verdict, number, namedLink, returned, linkIn};
 
+// S.
 const UNITS: u32 = 1_000_000_000;
 
+// A value from here on is a length.
 const LENGTHS: u32 = 2_147_483_648;
 
 // Why a call is refused.
@@ -45,20 +47,21 @@ pub struct Reader<'a> {
 }
 
 // A link as it stands in the file.
-pub struct Entry {
+struct Entry {
     pub a: u8,
     pub b: u8,
     pub value: u32,
 }
 
-pub fn byte(s: &[u8], at: usize) -> u8
+// The number in one, two and four bytes of a plan, the lowest byte first.
+fn byte(s: &[u8], at: usize) -> u8
     requires { ⌜ at + 1 ≤ length (now s) ⌝ }
     ensures { λ r. ⌜ r ≡ byte (now (s .entry)) at ⌝ }
 {
     s[at]
 }
 
-pub fn word16(s: &[u8], at: usize) -> u16
+fn word16(s: &[u8], at: usize) -> u16
     requires { ⌜ at + 2 ≤ length (now s) ⌝ }
     ensures { λ r. ⌜ r ≡ word16 (now (s .entry)) at ⌝ }
 {
@@ -67,7 +70,7 @@ pub fn word16(s: &[u8], at: usize) -> u16
     low + 256 * high
 }
 
-pub fn word32(s: &[u8], at: usize) -> u32
+fn word32(s: &[u8], at: usize) -> u32
     requires { ⌜ at + 4 ≤ length (now s) ⌝ }
     ensures { λ r. ⌜ r ≡ word32 (now (s .entry)) at ⌝ }
 {
@@ -77,12 +80,14 @@ pub fn word32(s: &[u8], at: usize) -> u32
 }
 
 impl<'a> Reader<'a> {
+    // At the start.
     pub fn new(plan: &'a [u8]) -> Reader<'a>
         ensures { λ r. ⌜ (r .plan ≡ plan .entry) × (r .at ≡ 0) ⌝ }
     {
         Reader { plan, at: 0 }
     }
 
+    // Moved on by k bytes.
     pub fn advanced(self, k: usize) -> Reader<'a>
         requires { ⌜ self .at + k ≤ length (now (self .plan)) ⌝ }
         ensures { λ r. ⌜ (r .plan ≡ self .entry .plan) × (r .at ≡ self .entry .at + k) ⌝ }
@@ -93,6 +98,7 @@ impl<'a> Reader<'a> {
         }
     }
 
+    // What stands at its position.
     pub fn byte(self) -> u8
         requires { ⌜ self .at + 1 ≤ length (now (self .plan)) ⌝ }
         ensures { λ r. ⌜ r ≡ byte (now (self .entry .plan)) (self .entry .at) ⌝ }
@@ -115,6 +121,7 @@ impl<'a> Reader<'a> {
     }
 }
 
+// n and m.
 pub fn sizes_of(plan: &[u8]) -> Sizes
     requires { ⌜ 4 ≤ length (now plan) ⌝ }
     ensures { λ r. ⌜ (r .n ≡ sizeN (now (plan .entry))) × (r .m ≡ sizeM (now (plan .entry))) ⌝ }
