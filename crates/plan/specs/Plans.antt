@@ -19,8 +19,11 @@ use Rattle.plan.specs.declared.Rated.the-variants.{Units, Unrated}
 
 -- ---- numbers in the file, little-endian
 
+abbrev pub byte : List ℕ → ℕ → ℕ
+byte b i = getD b i 0
+
 abbrev pub word16 : List ℕ → ℕ → ℕ
-word16 b i = getD b i 0 + 256 * getD b (i + 1) 0
+word16 b i = byte b i + 256 * byte b (i + 1)
 
 abbrev pub word32 : List ℕ → ℕ → ℕ
 word32 b i = word16 b i + 65536 * word16 b (i + 2)
@@ -34,10 +37,10 @@ sizeM b = word16 b 2
 
 -- the two ends of link i, and its value as it stands in the file
 abbrev pub firstEnd : List ℕ → ℕ → ℕ
-firstEnd b i = getD b (4 + 2 * i) 0
+firstEnd b i = byte b (4 + 2 * i)
 
 abbrev pub secondEnd : List ℕ → ℕ → ℕ
-secondEnd b i = getD b (5 + 2 * i) 0
+secondEnd b i = byte b (5 + 2 * i)
 
 abbrev pub fileValue : List ℕ → ℕ → ℕ
 fileValue b i = word32 b (4 + 2 * sizeM b + 4 * i)

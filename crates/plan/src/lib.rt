@@ -4,11 +4,13 @@ use reliability::Link;
 ghost use mathlib.Core.Path.{_≡_};
 ghost use Prim.Native.Nat.{_+_, _*_, _≤_, _<_};
 ghost use lib.ListN.{length};
-ghost use Rattle.plan.specs.Plans.{word16, word32, sizeN, sizeM, firstEnd, secondEnd, fileValue, rated, unitsOf, linkVerdict, linksVerdict, verdict, number, namedLink, returned, linkIn, planOf};
+ghost use Rattle.plan.specs.Plans.{byte, word16, word32, sizeN, sizeM, firstEnd, secondEnd, fileValue, rated, unitsOf, linkVerdict, linksVerdict, verdict, number, namedLink, returned, linkIn, planOf};
 ghost use Rattle.network.specs.Places.{networkOf, Built};
 
+// S.
 const UNITS: u32 = 1_000_000_000;
 
+// A value from here on is a length.
 const LENGTHS: u32 = 2_147_483_648;
 
 // Why a call is refused.
@@ -47,13 +49,21 @@ pub struct Reader<'a> {
 }
 
 // A link as it stands in the file.
-pub struct Entry {
+struct Entry {
     pub a: u8,
     pub b: u8,
     pub value: u32,
 }
 
-pub fn word16(s: &[u8], at: usize) -> u16
+// The number in one, two and four bytes of a plan, the lowest byte first.
+fn byte(s: &[u8], at: usize) -> u8
+    requires { ⌜ at + 1 ≤ length (now s) ⌝ }
+    ensures { λ r. ⌜ r ≡ byte (now (s .entry)) at ⌝ }
+{
+    s[at]
+}
+
+fn word16(s: &[u8], at: usize) -> u16
     requires { ⌜ at + 2 ≤ length (now s) ⌝ }
     ensures { λ r. ⌜ r ≡ word16 (now (s .entry)) at ⌝ }
 {
@@ -62,7 +72,7 @@ pub fn word16(s: &[u8], at: usize) -> u16
     low + 256 * high
 }
 
-pub fn word32(s: &[u8], at: usize) -> u32
+fn word32(s: &[u8], at: usize) -> u32
     requires { ⌜ at + 4 ≤ length (now s) ⌝ }
     ensures { λ r. ⌜ r ≡ word32 (now (s .entry)) at ⌝ }
 {
@@ -72,12 +82,14 @@ pub fn word32(s: &[u8], at: usize) -> u32
 }
 
 impl<'a> Reader<'a> {
+    // At the start.
     pub fn new(plan: &'a [u8]) -> Reader<'a>
         ensures { λ r. ⌜ (r .plan ≡ plan .entry) × (r .at ≡ 0) ⌝ }
     {
         Reader { plan, at: 0 }
     }
 
+    // Moved on by k bytes.
     pub fn advanced(self, k: usize) -> Reader<'a>
         requires { ⌜ self .at + k ≤ length (now (self .plan)) ⌝ }
         ensures { λ r. ⌜ (r .plan ≡ self .entry .plan) × (r .at ≡ self .entry .at + k) ⌝ }
@@ -88,14 +100,30 @@ impl<'a> Reader<'a> {
         }
     }
 
+    // What stands at its position.
+    pub fn byte(self) -> u8
+        requires { ⌜ self .at + 1 ≤ length (now (self .plan)) ⌝ }
+        ensures { λ r. ⌜ r ≡ byte (now (self .entry .plan)) (self .entry .at) ⌝ }
+    {
+        byte(self.plan, self.at)
+    }
+
     pub fn word16(self) -> u16
         requires { ⌜ self .at + 2 ≤ length (now (self .plan)) ⌝ }
         ensures { λ r. ⌜ r ≡ word16 (now (self .entry .plan)) (self .entry .at) ⌝ }
     {
         word16(self.plan, self.at)
     }
+
+    pub fn word32(self) -> u32
+        requires { ⌜ self .at + 4 ≤ length (now (self .plan)) ⌝ }
+        ensures { λ r. ⌜ r ≡ word32 (now (self .entry .plan)) (self .entry .at) ⌝ }
+    {
+        word32(self.plan, self.at)
+    }
 }
 
+// n and m.
 pub fn sizes_of(plan: &[u8]) -> Sizes
     requires { ⌜ 4 ≤ length (now plan) ⌝ }
     ensures { λ r. ⌜ (r .n ≡ sizeN (now (plan .entry))) × (r .m ≡ sizeM (now (plan .entry))) ⌝ }
@@ -106,16 +134,27 @@ pub fn sizes_of(plan: &[u8]) -> Sizes
     Sizes { n, m }
 }
 
+// The entry whose ends and value stand at two positions.
+fn entry_from(plan: &[u8], ends: usize, value: usize) -> Entry
+    requires { ⌜ (ends + 2 ≤ length (now plan)) × (value + 4 ≤ length (now plan)) ⌝ }
+    ensures { λ r. ⌜ (r .a ≡ byte (now (plan .entry)) ends) × (r .b ≡ byte (now (plan .entry)) (ends + 1)) × (r .value ≡ word32 (now (plan .entry)) value) ⌝ }
+{
+    let start = Reader::new(plan);
+    let first = start.advanced(ends);
+    let second = first.advanced(1);
+    let last = start.advanced(value);
+    let a = first.byte();
+    let b = second.byte();
+    let v = last.word32();
+    Entry { a, b, value: v }
+}
+
 fn entry_at(plan: &[u8], i: usize) -> Entry
     requires { ⌜ (i < sizeM (now plan)) × (length (now plan) ≡ 4 + 6 * sizeM (now plan)) ⌝ }
     ensures { λ r. ⌜ (r .a ≡ firstEnd (now (plan .entry)) i) × (r .b ≡ secondEnd (now (plan .entry)) i) × (r .value ≡ fileValue (now (plan .entry)) i) ⌝ }
 {
     let m = sizes_of(plan).m as usize;
-    Entry {
-        a: plan[4 + 2 * i],
-        b: plan[5 + 2 * i],
-        value: word32(plan, 4 + 2 * m + 4 * i),
-    }
+    entry_from(plan, 4 + 2 * i, 4 + 2 * m + 4 * i)
 }
 
 fn stands_for(w: u32) -> Rated
