@@ -18,7 +18,7 @@ use Rattle.plan.specs.declared.Verdict.{Verdict}
 use Rattle.plan.specs.declared.Verdict.the-variants.{Accepted, Refused}
 use Rattle.plan.specs.declared.Cause.the-variants.{Limit, Buffer, Place}
 use Rattle.plan.specs.Plans.{WellFormed, sizeM, verdict, also, returned, planOf}
-use Rattle.plan.proofs.Plans.{number-range, zero-accepted, accepted-means, kept, both}
+use Rattle.plan.proofs.Verdicts.{number-range, zero-accepted, accepted-means, kept, both-accepted}
 use Rattle.plan.proofs.Accepted.{plan-valid}
 use Rattle.desk.specs.Outcomes.{twos, withFigure, asked, placed, figureVerdict, Outcome, unless, unlessSecond, accepted}
 use Rattle.desk.specs.Answers.{lowIn, highIn, stepsIn, finishedIn, signed, Holds, Marked, Full, Refusal, returnedOfBoth}
@@ -56,7 +56,7 @@ zero-both (Refused c) w e = (λ z. absurd (omega (arith, number-range c)), λ h.
 -- ---- what is accepted
 
 pub also-means : (u v : Verdict) → also u v ≡ Accepted ↔ (u ≡ Accepted) × (v ≡ Accepted)
-also-means u v = (both u v, λ h. rw (h .0) (h .1))
+also-means u v = (both-accepted u v, λ h. rw (h .0) (h .1))
 
 asked-means : (limit room : ℕ) → asked limit room ≡ Accepted ↔ (limit ≤ 1000000) × (16 ≤ room)
 unfolding asked

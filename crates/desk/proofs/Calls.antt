@@ -10,13 +10,8 @@ use Rattle.plan.specs.declared.Cause.{Cause}
 use Rattle.plan.specs.declared.Cause.the-variants.{Limit, Buffer, Place}
 use Rattle.plan.specs.declared.Verdict.{Verdict}
 use Rattle.plan.specs.declared.Verdict.the-variants.{Accepted, Refused}
-use Rattle.plan.specs.Plans.{sizeM, also, returned}
+use Rattle.plan.specs.Plans.{sizeM, returned}
 use Rattle.desk.specs.Outcomes.{Outcome, unless, unlessSecond, asked, placed}
-
--- both verdicts of an accepted pair are accepted
-pub both-accepted : (u v : Verdict) → also u v ≡ Accepted → (u ≡ Accepted) × (v ≡ Accepted)
-both-accepted Accepted v h = (refl, h)
-both-accepted (Refused c) v h = let z : _≡_ {A = ℕ} 0 1 = cc in absurd (omega arith)
 
 kept : (t : Bool) (u : Verdict) (c : Cause) → cond t u (Refused c) ≡ Accepted → (t ≡ true) × (u ≡ Accepted)
 kept true u c h = (refl, h)

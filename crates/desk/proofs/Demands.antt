@@ -16,7 +16,7 @@ use Rattle.reliability.proofs.Theorems as rule
 use Rattle.plan.specs.declared.Verdict.{Verdict}
 use Rattle.plan.specs.declared.Verdict.the-variants.{Accepted}
 use Rattle.plan.specs.Plans.{WellFormed, sizeN, sizeM, verdict, returned, planOf}
-use Rattle.plan.proofs.Plans.{accepted-means}
+use Rattle.plan.proofs.Verdicts.{accepted-means}
 use Rattle.plan.proofs.Accepted.{plan-equal, plan-links, plan-nodes}
 use Rattle.desk.specs.Outcomes.{withFigure, Outcome, figureVerdict, checkOutcome, figureOutcome}
 use Rattle.desk.specs.Answers.{lowIn, highIn, stepsIn, finishedIn, Holds, LiesWithin, Marked, Full, Refusal}

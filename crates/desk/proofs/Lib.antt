@@ -3,5 +3,5 @@ pub mod Twos
 pub mod Calls
 pub mod Answers
 pub mod Demands
-pub mod Importance
-pub mod Difference
+pub mod Importances
+pub mod Differences

@@ -75,7 +75,7 @@ module _ (b : List ℕ) where
 -- ---- accepted plans
 
 -- what is not refused for want of it
-kept : {P : Type 0} {v : Verdict} {c : Cause} → Dec P → v ≡ Accepted → ((P → ⊥) → v ≡ Refused c) → P
+pub kept : {P : Type 0} {v : Verdict} {c : Cause} → Dec P → v ≡ Accepted → ((P → ⊥) → v ≡ Refused c) → P
 kept (yes p) e r = p
 kept (no n) e r = let q = r n in let z : _≡_ {A = ℕ} 0 1 = cc in absurd (omega arith)
 
@@ -83,9 +83,10 @@ not-true-false : {t : Bool} → (t ≡ true → ⊥) → t ≡ false
 not-true-false {t = true} n = absurd (n refl)
 not-true-false {t = false} n = refl
 
-both : (u v : Verdict) → also u v ≡ Accepted → (u ≡ Accepted) × (v ≡ Accepted)
-both Accepted v e = (refl, e)
-both (Refused c) v e = let z : _≡_ {A = ℕ} 0 1 = cc in absurd (omega arith)
+-- both verdicts of an accepted pair are accepted
+pub both-accepted : (u v : Verdict) → also u v ≡ Accepted → (u ≡ Accepted) × (v ≡ Accepted)
+both-accepted Accepted v e = (refl, e)
+both-accepted (Refused c) v e = let z : _≡_ {A = ℕ} 0 1 = cc in absurd (omega arith)
 
 module _ (b : List ℕ) (i : ℕ) where
   link-accepted : linkVerdict b i ≡ Accepted → WellFormedLink b i
@@ -101,7 +102,7 @@ links-accepted : (b : List ℕ) (i k : ℕ) → linksVerdict b i k ≡ Accepted 
 unfolding linksVerdict
 links-accepted b i zero e j l h = absurd (omega arith)
 links-accepted b i (suc k) e j l h =
-    let p = both (linkVerdict b i) (linksVerdict b (suc i) k) e in
+    let p = both-accepted (linkVerdict b i) (linksVerdict b (suc i) k) e in
     by-cases (decLt i j) (λ m. links-accepted b (suc i) k (p .1) j m (omega arith)) (λ n. subst (WellFormedLink b) (omega arith) (link-accepted b i (p .0)))
 
 accepted-links : (b : List ℕ) (i k : ℕ) → ((j : ℕ) → i ≤ j → j < i + k → WellFormedLink b j) → linksVerdict b i k ≡ Accepted

@@ -11,8 +11,8 @@ use Rattle.plan.specs.declared.Verdict.the-variants.{Accepted}
 use Rattle.plan.specs.Plans.{verdict, returned, planOf}
 use Rattle.plan.proofs.Accepted.{plan-valid}
 use Rattle.desk.specs.Outcomes.{asked, figureVerdict, unlessSecond, accepted, answered, twos, withDifference, Outcome, differenceOutcome}
-use Rattle.desk.proofs.Calls.{both-accepted, asked-accepted, refused, refused-second, answers, answers-second}
-use Rattle.plan.proofs.Verdicts.{returned-range}
+use Rattle.desk.proofs.Calls.{asked-accepted, refused, refused-second, answers, answers-second}
+use Rattle.plan.proofs.Verdicts.{returned-range, both-accepted}
 use borrow.Author.Needs.{needs}
 use Rattle.desk.proofs.difference.Statement.{statement}
 use Rattle.desk.proofs.difference.Tie as tie

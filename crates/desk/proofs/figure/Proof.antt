@@ -9,7 +9,8 @@ use Rattle.plan.specs.declared.Verdict.the-variants.{Accepted}
 use Rattle.plan.specs.Plans.{verdict, returned, planOf}
 use Rattle.plan.proofs.Accepted.{plan-valid}
 use Rattle.desk.specs.Outcomes.{asked, figureVerdict, figureOutcome, accepted, withFigure, Outcome}
-use Rattle.desk.proofs.Calls.{both-accepted, asked-accepted, refused, answers}
+use Rattle.plan.proofs.Verdicts.{both-accepted}
+use Rattle.desk.proofs.Calls.{asked-accepted, refused, answers}
 use borrow.Author.Needs.{needs}
 use Rattle.desk.proofs.figure.Statement.{statement}
 use Rattle.desk.proofs.figure.Tie as tie

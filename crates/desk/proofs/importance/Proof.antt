@@ -13,7 +13,8 @@ use Rattle.plan.specs.declared.Verdict.the-variants.{Accepted}
 use Rattle.plan.specs.Plans.{sizeM, verdict, returned, planOf}
 use Rattle.plan.proofs.Accepted.{plan-valid, plan-equal}
 use Rattle.desk.specs.Outcomes.{asked, placed, figureVerdict, importanceVerdict, importanceOutcome, accepted, withFigure, Outcome}
-use Rattle.desk.proofs.Calls.{both-accepted, asked-accepted, placed-accepted, refused, answers}
+use Rattle.plan.proofs.Verdicts.{both-accepted}
+use Rattle.desk.proofs.Calls.{asked-accepted, placed-accepted, refused, answers}
 use borrow.Author.Needs.{needs}
 use Rattle.desk.proofs.importance.Statement.{statement}
 use Rattle.desk.proofs.importance.Tie as tie

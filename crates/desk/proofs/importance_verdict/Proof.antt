@@ -2,9 +2,8 @@ use mathlib.Core.Path.{sym, ap, _∙_}
 use Rattle.plan.specs.declared.Verdict.{Verdict}
 use Rattle.plan.specs.Plans.{also, verdict}
 use native.Mathlib.Omega.{arith}
-use Rattle.plan.proofs.Verdicts.{accepted-means}
+use Rattle.plan.proofs.Verdicts.{accepted-means, both-accepted}
 use Rattle.desk.specs.Outcomes.{asked, placed}
-use Rattle.desk.proofs.Calls.{both-accepted}
 use borrow.Author.Needs.{needs}
 use Rattle.desk.proofs.importance_verdict.Statement.{statement}
 use Rattle.desk.proofs.importance_verdict.Tie as tie

@@ -20,7 +20,7 @@ use Rattle.reliability.proofs.Comparisons as rule
 use Rattle.plan.specs.declared.Verdict.{Verdict}
 use Rattle.plan.specs.declared.Verdict.the-variants.{Accepted}
 use Rattle.plan.specs.Plans.{WellFormed, sizeN, sizeM, verdict, planOf}
-use Rattle.plan.proofs.Plans.{accepted-means}
+use Rattle.plan.proofs.Verdicts.{accepted-means}
 use Rattle.plan.proofs.Accepted.{plan-equal, plan-links, plan-nodes}
 use Rattle.desk.specs.Outcomes.{twos, withDifference, Outcome, figureVerdict, differenceOutcome}
 use Rattle.desk.specs.Answers.{lowIn, highIn, stepsIn, finishedIn, signed, HoldsSigned, LiesWithinSigned, Marked, Full, Refusal, returnedOfBoth}
