@@ -9,8 +9,8 @@ fn main() {
     println!("cargo:rerun-if-changed=libraries.txt");
     println!("cargo:rustc-check-cfg=cfg(desk)");
     println!("cargo:rustc-link-search=native={}", folder.display());
-    let listed = include_str!("libraries.txt").lines();
-    for name in listed.filter(|line| !line.starts_with('#')) {
+    let lines = include_str!("libraries.txt").lines();
+    for name in lines.filter(|line| !line.starts_with('#')) {
         let archive = folder.join(format!("lib{name}.a"));
         println!("cargo:rerun-if-changed={}", archive.display());
         let missing =

@@ -139,3 +139,11 @@ pub fn left(outcome: &Outcome, buffer: &[u8]) -> (u64, Vec<u8>) {
         Ok(Some(answer)) => (0, [&answer_bytes(answer), &buffer[ANSWER..]].concat()),
     }
 }
+
+/// The outcome of a call by the rule, to which the library is held where it is linked.
+pub fn held(call: &Call, room: usize) -> Outcome {
+    let outcome = call.outcome(room);
+    #[cfg(desk)]
+    crate::desk::hold(call, room, &outcome);
+    outcome
+}

@@ -60,18 +60,17 @@ pub fn pattern(room: usize) -> Vec<u8> {
 const GUARD: usize = 48;
 
 /// Makes the call into a buffer of `room` bytes with a guard behind, and asserts that the number returned and every byte
-/// there are those that the rule gives.
-pub fn compared(call: &Call, room: usize) -> Outcome {
+/// there are those of the outcome.
+pub fn hold(call: &Call, room: usize, outcome: &Outcome) {
     let before = pattern(room + GUARD);
     let mut buffer = before.clone();
     let returned = made(call, &mut buffer[..room]);
-    let outcome = call.outcome(room);
+    let expected = left(outcome, &before);
     assert_eq!(
         (returned, buffer),
-        left(&outcome, &before),
+        expected,
         "{call:?}, room {room}, {outcome:?}"
     );
-    outcome
 }
 
 /// `check` of no bytes at no address.

@@ -1,9 +1,10 @@
-//! The independent version of the rule against every figure that the request prints.
+//! The independent version of the rule, and the library where it is linked, against every figure that the request prints.
 
-use outside::arithmetic::S;
-use outside::calls::{answer_bytes, read, Call};
+use outside::arithmetic::{split, Side, S};
+use outside::calls::{answer_bytes, held, read, Call};
 use outside::plans::{Link, Plan, LENGTH};
-use outside::rule::{difference, figure, importance, needed, Answer, Figure, Network};
+use outside::random::Random;
+use outside::rule::{difference, figure, needed, Answer, Figure, Network};
 use outside::states::Exact;
 use std::cmp::Ordering;
 
@@ -28,49 +29,103 @@ fn sample() -> Plan {
 
 #[test]
 fn the_plans_that_are_written_down() {
+    let path = Plan::alike(3, HALF, &TRIANGLE[..2]);
+    let triangle = |value| Plan::alike(3, value, &TRIANGLE);
     let four = || Plan::alike(4, HALF, &FOUR);
     let rows = [
         ("P1", Plan::new(1, &[]), 20_000, S, S, 0, true),
         ("P2", Plan::new(2, &[]), 20_000, 0, 0, 0, true),
         ("P3", Plan::new(1, &[(0, 0, 0)]), 20_000, S, S, 0, true),
         ("P4", listed(), 20_000, 980_000_000, 980_000_000, 0, true),
-        (
-            "P5",
-            Plan::alike(3, HALF, &TRIANGLE[..2]),
-            20_000,
-            250_000_000,
-            250_000_000,
-            0,
-            true,
-        ),
+        ("P5", path, 20_000, 250_000_000, 250_000_000, 0, true),
         (
             "P6",
-            Plan::alike(3, HALF, &TRIANGLE),
+            triangle(HALF),
             20_000,
             499_999_999,
             500_000_001,
             0,
             true,
         ),
-        ("P7", Plan::alike(3, 0, &TRIANGLE), 20_000, 0, 0, 0, true),
-        ("P8", Plan::alike(3, S, &TRIANGLE), 20_000, S, S, 0, true),
+        ("P7", triangle(0), 20_000, 0, 0, 0, true),
+        ("P8", triangle(S), 20_000, S, S, 0, true),
         ("P9", sample(), 20_000, 851_905_963, 851_905_965, 0, true),
         ("P10", four(), 1, 593_749_999, 593_750_001, 1, true),
         ("P11", four(), 0, 0, S, 0, false),
     ];
     for (name, plan, limit, low, high, steps, finished) in rows {
-        let expected = Figure {
-            low,
-            high,
+        let expected = Answer {
+            low: low.into(),
+            high: high.into(),
             steps,
             finished,
         };
-        assert_eq!(figure(Network::from(&plan), limit), expected, "{name}");
-        assert_eq!(
-            needed(Network::from(&plan)),
-            u64::from(name >= "P10" && name < "P2"),
-            "{name}"
-        );
+        let bytes = &plan.bytes();
+        let call = Call::Figure { plan: bytes, limit };
+        assert_eq!(held(&call, 16), Ok(Some(expected)), "{name}");
+        if finished {
+            assert_eq!(needed(Network::from(&plan)), steps, "{name}");
+        }
+    }
+}
+
+/// Where a link is sound its ends are one node, and that branch takes what steps it needs of those that are left.
+#[test]
+fn sound_comes_first() {
+    let five = Network::from(&Plan::complete(5, HALF));
+    let merged = [
+        [0, 1],
+        [0, 1],
+        [0, 2],
+        [0, 2],
+        [1, 2],
+        [0, 3],
+        [0, 3],
+        [1, 3],
+        [2, 3],
+    ];
+    let sound = figure(Network::from(&Plan::alike(4, HALF, &merged)), 1);
+    assert!(sound.finished && sound.steps == 1);
+    let expected = Figure {
+        low: split(Side::Low, HALF, sound.low, 0),
+        high: split(Side::High, HALF, sound.high, S),
+        steps: 2,
+        finished: false,
+    };
+    assert_eq!(figure(five, 2), expected);
+}
+
+#[test]
+fn zero_links_count() {
+    let four = Network::from(&Plan::alike(4, 0, &FOUR));
+    let asked = |limit| {
+        let figure = figure(four.clone(), limit);
+        (figure.low, figure.high, figure.steps, figure.finished)
+    };
+    assert_eq!(asked(0), (0, S, 0, false));
+    assert_eq!(asked(1), (0, 0, 1, true));
+}
+
+/// A loop at each node of P5 changes nothing.
+#[test]
+fn loops_do_not_count() {
+    let ends = [[0, 0], [0, 1], [1, 1], [1, 2], [2, 2]];
+    let figure = figure(Network::from(&Plan::alike(3, HALF, &ends)), 0);
+    assert_eq!((figure.low, figure.high), (250_000_000, 250_000_000));
+    assert!(figure.finished);
+}
+
+/// At a node of the complete graph on n nodes, n - 3 splits and a series each leave the complete graph on one node less: so
+/// it ends in (n - 2)! networks. That number is known not to depend on the links that are chosen.
+#[test]
+fn splits_of_the_complete_graphs() {
+    let mut random = Random::new(5);
+    for (nodes, ends) in [(3, 1), (4, 2), (5, 6), (6, 24), (7, 120), (8, 720)] {
+        let mut plan = Plan::complete(nodes, HALF);
+        for _ in 0..3 {
+            assert_eq!(needed(Network::from(&plan)), ends - 1, "{plan:?}");
+            random.shuffle(&mut plan.links);
+        }
     }
 }
 
@@ -98,7 +153,7 @@ fn the_exact_figures_that_are_written_down() {
 
 #[test]
 fn the_listing() {
-    let network = Network::from(&listed());
+    let plan = &listed().bytes();
     for (place, value) in [(0, 200_000_000), (1, 100_000_000)] {
         let expected = Answer {
             low: value,
@@ -106,8 +161,10 @@ fn the_listing() {
             steps: 0,
             finished: true,
         };
-        assert_eq!(importance(&network, place, 20_000), expected);
-        let exact = Exact::importance(&listed(), place);
+        let limit = 20_000;
+        let call = Call::Importance { plan, place, limit };
+        assert_eq!(held(&call, 16), Ok(Some(expected)));
+        let exact = Exact::importance(&listed(), place as usize);
         assert_eq!(exact.compared(value), Ordering::Equal);
     }
 }
@@ -160,21 +217,4 @@ fn the_bytes_of_an_answer() {
         0xfe, 0xff, 0xff, 0xff, 0x00, 0xca, 0x9a, 0x3b, 0x80, 0x84, 0x1e, 0, 1, 0, 0, 0,
     ];
     assert_eq!(answer_bytes(&answer), bytes);
-}
-
-#[test]
-fn a_place_past_the_links_is_refused() {
-    let plan = listed().bytes();
-    let asked = |place| {
-        let call = Call::Importance {
-            plan: &plan,
-            place,
-            limit: 0,
-        };
-        call.outcome(16).map(|_| ())
-    };
-    assert_eq!(
-        [asked(1), asked(2), asked(1 << 32)],
-        [Ok(()), Err(8), Err(8)]
-    );
 }

@@ -1,8 +1,6 @@
 //! Damaged plan files at each of the calls: every outcome is the one that the rule gives.
-#![cfg(desk)]
 
-use outside::calls::{read, Call, MOST_STEPS};
-use outside::desk::compared;
+use outside::calls::{held, read, Call, MOST_STEPS};
 use outside::plans::{damaged, Plan};
 use outside::random::Random;
 use outside::states::{Exact, MOST};
@@ -17,7 +15,7 @@ fn small(files: [&[u8]; 2]) -> Option<[Plan; 2]> {
 
 /// Makes all four calls on a file, and says whether it was accepted.
 fn tried(file: &[u8], good: &[u8], place: u64, limit: u64) -> bool {
-    let accepted = compared(&Call::Check { plan: file }, 0).is_ok();
+    let accepted = held(&Call::Check { plan: file }, 0).is_ok();
     let plan = file;
     let answers = [
         Call::Figure { plan, limit },
@@ -33,7 +31,7 @@ fn tried(file: &[u8], good: &[u8], place: u64, limit: u64) -> bool {
             limit,
         },
     ]
-    .map(|call| compared(&call, 24).ok().flatten());
+    .map(|call| held(&call, 24).ok().flatten());
     if let Some([plan, good]) = small([file, good]) {
         let exact = [
             Some(Exact::figure(&plan)),

@@ -1,9 +1,8 @@
-//! Every row of the table of causes, alone and in pairs, at each of the four calls.
-#![cfg(desk)]
+//! Every row of the table of causes, alone and in pairs, at each of the four calls: of the independent version, and of the
+//! library where it is linked.
 
 use outside::arithmetic::S;
-use outside::calls::Call;
-use outside::desk::compared;
+use outside::calls::{held, Call};
 use outside::plans::{Plan, LENGTH};
 
 /// Everything that can be wrong with a file: its plan, then its length, then all but its first bytes lost.
@@ -143,7 +142,7 @@ fn alone_and_in_pairs(faults: &[Fault<Asked>], returned: impl Fn(&Asked) -> Resu
 }
 
 fn returned(call: Call, room: usize) -> Result<(), u64> {
-    compared(&call, room).map(|_| ())
+    held(&call, room).map(|_| ())
 }
 
 #[test]

@@ -1,9 +1,7 @@
 //! The largest sizes, values, limits and buffers that pass, and one more of each.
-#![cfg(desk)]
 
 use outside::arithmetic::S;
-use outside::calls::{Call, Outcome};
-use outside::desk::{self, compared};
+use outside::calls::{held, Call, Outcome};
 use outside::plans::{Plan, LENGTH};
 
 /// A ring of all nodes, run round until there are enough links, so that it takes no split.
@@ -37,7 +35,7 @@ fn numbers(plan: &[u8], limit: u64) -> [u64; 5] {
             limit,
         },
     ];
-    calls.map(|call| compared(&call, 16).err().unwrap_or(0))
+    calls.map(|call| held(&call, 16).err().unwrap_or(0))
 }
 
 const PASSED: [u64; 5] = [0; 5];
@@ -93,7 +91,7 @@ fn places_are_64_bits() {
     let plan = &ring(5, 64, S / 2);
     let asked = |place| -> Outcome {
         let limit = 0;
-        compared(&Call::Importance { plan, place, limit }, 16)
+        held(&Call::Importance { plan, place, limit }, 16)
     };
     for place in [0, 1, 31, 32, 63] {
         assert!(asked(place).is_ok(), "place {place}");
@@ -116,14 +114,16 @@ fn buffers_of_0_to_40_bytes() {
             Call::Difference { a: plan, b, limit },
         ];
         for call in calls {
-            assert_eq!(compared(&call, room).map(|_| ()), number, "{call:?} {room}");
+            assert_eq!(held(&call, room).map(|_| ()), number, "{call:?} {room}");
         }
     }
 }
 
 /// A file or a buffer of no bytes may be at no address at all.
+#[cfg(desk)]
 #[test]
 fn no_bytes_at_no_address() {
+    use outside::desk;
     let plan = &ring(3, 3, S);
     assert_eq!(desk::check_nothing(), 1);
     assert_eq!(desk::figure_into_nothing(plan, 5), 9);
@@ -136,7 +136,7 @@ fn the_ends_of_a_difference() {
     let (certain, parted) = (&ring(3, 3, S), &Plan::new(2, &[]).bytes());
     let asked = |a, b| {
         let call = Call::Difference { a, b, limit: 0 };
-        let answer = compared(&call, 16).unwrap().unwrap();
+        let answer = held(&call, 16).unwrap().unwrap();
         (answer.low, answer.high)
     };
     let whole = i64::from(S);
