@@ -10,9 +10,9 @@ use std::thread;
 
 const STACK: usize = 512 * 1024;
 
-/// A ring of ten nodes with all its chords but three, and a path of 22 nodes at one of them. It needs 27,261 splits, and the
-/// branch in which every split link is broken goes through 64 steps, of which all but two are ends, series and splits: what
-/// they leave has to be worked before they are done.
+/// A ring of ten nodes with all its chords but three, and a path of 22 nodes at one of them. It needs 27,261 splits, and
+/// its deepest branch goes through 64 steps, of which all but two are ends, series and splits: what those leave has to be
+/// worked before they are done.
 fn deepest() -> Plan {
     let chord = |d: u8| (0..10).map(move |v| [v, (v + d) % 10]);
     let core = (1..=5).flat_map(chord).take(42);
