@@ -107,11 +107,12 @@ returns-3 c =
     let known = c .before .before .before .before .before .before .struct-told .given in
     let e = answers (figureVerdict (a .first .now) (a .limit) (length (a .answer .now))) b (unlessSecond (verdict (a .second .now)) (a .answer .now) (accepted (withDifference (difference (planOf (a .first .now)) (planOf (a .second .now)) (a .limit)) (a .answer .now)))) (first-ok (c .before .before .before .before .before .before .before .before .before .before .before .before .before .before)) in
     let f = answers-second (verdict (a .second .now)) b (accepted (withDifference (difference (planOf (a .first .now)) (planOf (a .second .now)) (a .limit)) (a .answer .now))) (second-ok (c .before .before .before .before .before .before .before .before .before .before .before)) in
-    let d = c .before .before .before .before .before .before .before .before .difference .ensures ∙ ap₂ (λ (g h : Graph). difference g h (a .limit)) (c .before .before .before .before .before .before .before .before .before .before .network-of .ensures .0) (c .before .before .before .before .before .before .before .before .before .network-of2 .ensures .0) in
-    (ap (λ (o : Outcome). o .returned) (f ∙ e),
-    c .before .before .put-answer .ensures
-    ∙ ap₂ (λ (l h : ℕ). answered l h (c .before .before .before .before .before .before .before .before .difference .result .steps) (c .before .before .before .before .before .before .before .before .difference .result .finished) b) (c .before .before .before .before .before .bits-of .ensures ∙ ap twos (toZ-ofZ {w = w32} {z = c .before .before .before .before .before .before .before .before .difference .result .low} (record { sfits = known .0 .1 }))) (c .before .before .before .bits-of2 .ensures ∙ ap twos (toZ-ofZ {w = w32} {z = c .before .before .before .before .before .before .before .before .difference .result .high} (record { sfits = known .1 .0 .1 })))
-    ∙ ap (λ (x : Difference). withDifference x b) d ∙ ap (λ (o : Outcome). o .buffer) (f ∙ e))
+    let d = c .before .before .before .before .before .before .before .before .difference .ensures ∙ ap₂ (λ (g h : Graph). difference g h (a .limit)) (c .before .before .before .before .before .before .before .before .before .before .network-of .ensures .0) (c .before .before .before .before .before .before .before .before .before .network-of2 .ensures .0) in (
+      ap (λ (o : Outcome). o .returned) (f ∙ e),
+      c .before .before .put-answer .ensures
+          ∙ ap₂ (λ (l h : ℕ). answered l h (c .before .before .before .before .before .before .before .before .difference .result .steps) (c .before .before .before .before .before .before .before .before .difference .result .finished) b) (c .before .before .before .before .before .bits-of .ensures ∙ ap twos (toZ-ofZ {w = w32} {z = c .before .before .before .before .before .before .before .before .difference .result .low} (record { sfits = known .0 .1 }))) (c .before .before .before .bits-of2 .ensures ∙ ap twos (toZ-ofZ {w = w32} {z = c .before .before .before .before .before .before .before .before .difference .result .high} (record { sfits = known .1 .0 .1 })))
+          ∙ ap (λ (x : Difference). withDifference x b) d ∙ ap (λ (o : Outcome). o .buffer) (f ∙ e),
+    )
 
 pub difference-spec : {M : Type 1} → statement M
 difference-spec =

@@ -65,9 +65,10 @@ unfolding figureOutcome
 returns-2 c =
     let a = c .before .before .before .before .before .before .before .before .before .before .before .args in
     let b = a .answer .now in
-    let e = answers (figureVerdict (a .plan .now) (a .limit) (length (a .answer .now))) b (accepted (withFigure (figure (planOf (a .plan .now)) (a .limit)) b)) (ok (c .before .before .before .before .before .before)) in
-    (ap (λ (o : Outcome). o .returned) e,
-    c .before .before .put-answer .ensures ∙ ap (λ (f : Figure). withFigure f b) (c .before .before .before .before .work .ensures ∙ ap (λ (h : Graph). figure h (a .limit)) (c .before .before .before .before .before .network-of .ensures .0)) ∙ ap (λ (o : Outcome). o .buffer) e)
+    let e = answers (figureVerdict (a .plan .now) (a .limit) (length (a .answer .now))) b (accepted (withFigure (figure (planOf (a .plan .now)) (a .limit)) b)) (ok (c .before .before .before .before .before .before)) in (
+      ap (λ (o : Outcome). o .returned) e,
+      c .before .before .put-answer .ensures ∙ ap (λ (f : Figure). withFigure f b) (c .before .before .before .before .work .ensures ∙ ap (λ (h : Graph). figure h (a .limit)) (c .before .before .before .before .before .network-of .ensures .0)) ∙ ap (λ (o : Outcome). o .buffer) e,
+    )
 
 pub figure-spec : {M : Type 1} → statement M
 figure-spec =

@@ -58,9 +58,12 @@ importance-requires : tie.Need-importance-requires
 importance-requires c κs =
     let k = asks (c .before) in
     let b = c .before .before .before .before .before .before .args .plan .now in
-    let n = c .network-of .result in
-    (subst Valid (sym (c .network-of .ensures .0)) (plan-valid b (k .2)), subst Equal (sym (c .network-of .ensures .0)) (plan-equal b),
-    built-used n (sizeM b) (c .network-of .ensures .1) (c .before .before .before .before .before .before .args .place) (k .3), omega (arith, k .0))
+    let n = c .network-of .result in (
+      subst Valid (sym (c .network-of .ensures .0)) (plan-valid b (k .2)),
+      subst Equal (sym (c .network-of .ensures .0)) (plan-equal b),
+      built-used n (sizeM b) (c .network-of .ensures .1) (c .before .before .before .before .before .before .args .place) (k .3),
+      omega (arith, k .0),
+    )
 
 put-answer-requires : tie.Need-put-answer-requires
 put-answer-requires c κs = asks (c .before .before .before) .1
@@ -73,9 +76,10 @@ unfolding importanceOutcome
 returns-2 c =
     let a = c .before .before .before .before .before .before .before .before .before .before .before .args in
     let b = a .answer .now in
-    let e = answers (importanceVerdict (a .plan .now) (a .place) (a .limit) (length (a .answer .now))) b (accepted (withFigure (importance (planOf (a .plan .now)) (a .place) (a .limit)) b)) (ok (c .before .before .before .before .before .before)) in
-    (ap (λ (o : Outcome). o .returned) e,
-    c .before .before .put-answer .ensures ∙ ap (λ (f : Figure). withFigure f b) (c .before .before .before .before .importance .ensures ∙ ap (λ (k : ℕ). importance (networkOf (c .before .before .before .before .before .network-of .result)) k (a .limit)) (built-index (c .before .before .before .before .before .network-of .result) (sizeM (a .plan .now)) (c .before .before .before .before .before .network-of .ensures .1) (a .place) (le-of-lt (asks (c .before .before .before .before .before .before) .3))) ∙ ap (λ (h : Graph). importance h (a .place) (a .limit)) (c .before .before .before .before .before .network-of .ensures .0)) ∙ ap (λ (o : Outcome). o .buffer) e)
+    let e = answers (importanceVerdict (a .plan .now) (a .place) (a .limit) (length (a .answer .now))) b (accepted (withFigure (importance (planOf (a .plan .now)) (a .place) (a .limit)) b)) (ok (c .before .before .before .before .before .before)) in (
+      ap (λ (o : Outcome). o .returned) e,
+      c .before .before .put-answer .ensures ∙ ap (λ (f : Figure). withFigure f b) (c .before .before .before .before .importance .ensures ∙ ap (λ (k : ℕ). importance (networkOf (c .before .before .before .before .before .network-of .result)) k (a .limit)) (built-index (c .before .before .before .before .before .network-of .result) (sizeM (a .plan .now)) (c .before .before .before .before .before .network-of .ensures .1) (a .place) (le-of-lt (asks (c .before .before .before .before .before .before) .3))) ∙ ap (λ (h : Graph). importance h (a .place) (a .limit)) (c .before .before .before .before .before .network-of .ensures .0)) ∙ ap (λ (o : Outcome). o .buffer) e,
+    )
 
 pub importance-spec : {M : Type 1} → statement M
 importance-spec =

@@ -59,9 +59,13 @@ loop-again : tie.Need-loop-again Inv-loop μ-loop
 loop-again c =
     let l = c .before .before .before .loop .inv in
     let e = c .with-link .ensures in
-    let b = c .before .before .before .before .before .before .before .before .before .args .plan .now in
-    (l .0, omega arith, e .2, e .0 ∙ l .3,
-    e .1 ∙ ap₂ (λ (xs : List Link) (x : Link). xs ++ (x ∷ [])) (l .4) (c .before .link-at .ensures) ∙ sym (links-more b (c .before .before .before .loop .i)))
+    let b = c .before .before .before .before .before .before .before .before .before .args .plan .now in (
+      l .0,
+      omega arith,
+      e .2,
+      e .0 ∙ l .3,
+      e .1 ∙ ap₂ (λ (xs : List Link) (x : Link). xs ++ (x ∷ [])) (l .4) (c .before .link-at .ensures) ∙ sym (links-more b (c .before .before .before .loop .i)),
+    )
 
 returns : tie.Need-returns Inv-loop μ-loop
 returns c =
