@@ -1,19 +1,24 @@
-//! Links the static libraries that `rt staticlib` has written to the repository's target folder.
+//! Links the static libraries of libraries.txt, which `rt staticlib` has written to the repository's target folder.
 
 use std::env;
 use std::path::PathBuf;
 
-const LIBRARIES: [&str; 1] = ["test_exports"];
-
 fn main() {
     let root = PathBuf::from(env::var("CARGO_MANIFEST_DIR").unwrap()).join("..");
     let folder = root.join("target").join("staticlib");
+    println!("cargo:rerun-if-changed=libraries.txt");
+    println!("cargo:rustc-check-cfg=cfg(desk)");
     println!("cargo:rustc-link-search=native={}", folder.display());
-    for name in LIBRARIES {
+    let lines = include_str!("libraries.txt").lines();
+    for name in lines.filter(|line| !line.starts_with('#')) {
+        let archive = folder.join(format!("lib{name}.a"));
+        println!("cargo:rerun-if-changed={}", archive.display());
+        let missing =
+            format!("target/staticlib/lib{name}.a is missing: rt staticlib {name} writes it");
+        assert!(archive.exists(), "{missing}");
         println!("cargo:rustc-link-lib=static={name}");
-        println!(
-            "cargo:rerun-if-changed={}",
-            folder.join(format!("lib{name}.a")).display()
-        );
+        if name == "desk" {
+            println!("cargo:rustc-cfg=desk");
+        }
     }
 }

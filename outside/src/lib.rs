@@ -2,5 +2,11 @@
 //! The tests compare the two. Nothing here is generated from the Rattle sources or shares code with them.
 
 pub mod arithmetic;
+pub mod calls;
+#[cfg(desk)]
+pub mod desk;
 pub mod library;
+pub mod plans;
 pub mod random;
+pub mod rule;
+pub mod states;

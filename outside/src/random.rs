@@ -28,4 +28,15 @@ impl Random {
         let size = self.up_to(63);
         self.up_to(most >> size)
     }
+
+    /// A number below `count`, which is not 0.
+    pub fn below(&mut self, count: usize) -> usize {
+        self.up_to(count as u64 - 1) as usize
+    }
+
+    pub fn shuffle<T>(&mut self, items: &mut [T]) {
+        for i in (1..items.len()).rev() {
+            items.swap(i, self.below(i + 1));
+        }
+    }
 }

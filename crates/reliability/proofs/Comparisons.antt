@@ -3,7 +3,7 @@ use Prim.Native.Nat.{ℕ, zero, suc, _+_, _-_, _*_, _^_, _≤_, _<_, min, max}
 use mathlib.Core.Path.{_≡_, refl, sym, ap, ap₂, _∙_, subst, subst₂}
 use mathlib.Core.List.{List, [], _∷_, map, List·Memᴰ, Memᴰ·of-map}
 use mathlib.Core.Bool.{Bool, true, false, _&&_, and-eq-true-iff}
-use native.Mathlib.Nat.{mul-assoc, mul-comm, mul-sub, add-le-add, mul-le-mul-right, le-refl, le-trans, le-of-eq}
+use native.Mathlib.Nat.{mul-assoc, mul-comm, mul-sub, add-le-add, mul-le-mul-left, mul-le-mul-right, le-of-mul-le-mul-right, le-refl, le-trans, le-of-eq}
 use native.Mathlib.Omega.{arith}
 use lib.Dec.{eqb, leb}
 use lib.ListN.{length, length-map}
@@ -24,13 +24,13 @@ use Rattle.reliability.proofs.Lists.{mem-delete, length-delete}
 use Rattle.reliability.proofs.Validity.{proper-at, deleted-valid, contracted-valid}
 use Rattle.reliability.proofs.Reductions.{sound-more}
 use Rattle.reliability.proofs.Signed.{minus-order, minus-mul, minus-add}
-use Rattle.reliability.proofs.Theorems.{steps-taken, finished-when, nesting, high-range, enclosure-of-equal, low-high, width}
+use Rattle.reliability.proofs.Theorems.{steps-taken, finished-when, nesting, high-range, enclosure-of-equal, low-high, width, power-pos}
 
 -- a valid network of m links whose values are equal
-record Plain (m : ℕ) (g : Network) : Type 0 where
-  valid : Valid g
-  equal : Equal g
-  size : length (g .links) ≡ m
+pub record Plain (m : ℕ) (g : Network) : Type 0 where
+  pub valid : Valid g
+  pub equal : Equal g
+  pub size : length (g .links) ≡ m
 
 bracket : {m : ℕ} (g : Network) → Plain m g → (limit : ℕ) → (figure g limit .low * S ^ m ≤ S * exact Down g) × (S * exact Down g ≤ figure g limit .high * S ^ m)
 bracket g p limit =
@@ -47,7 +47,7 @@ module _ (g : Network) (valid : Valid g) (equal : Equal g) (i : ℕ) (place : i 
   less : length (deleteAt i (g .links)) ≡ length (g .links) - 1
   less = let l = length-delete {i = i} (g .links) place in omega arith
 
-  broken-plain : Plain (length (g .links) - 1) (brokenAt i g)
+  pub broken-plain : Plain (length (g .links) - 1) (brokenAt i g)
   broken-plain = record { valid = deleted-valid g valid i; equal = λ f m. equal f (mem-delete i (g .links) m); size = less }
 
   contracted-plain : (e .a ≡ e .b → ⊥) → Plain (length (g .links) - 1) (contracted e (deleted i g))
@@ -59,7 +59,7 @@ module _ (g : Network) (valid : Valid g) (equal : Equal g) (i : ℕ) (place : i 
     size = length-map (deleteAt i (g .links)) (renamed (min (e .a) (e .b)) (max (e .a) (e .b))) ∙ less;
   }
 
-  sound-plain : Plain (length (g .links) - 1) (soundAt i g)
+  pub sound-plain : Plain (length (g .links) - 1) (soundAt i g)
   unfolding soundAt
   sound-plain = go (isLoop e) refl
     where
@@ -97,6 +97,11 @@ module _ (g : Network) (valid : Valid g) (equal : Equal g) (i : ℕ) (place : i 
           omega (arith, sub-mul (f .low) (h .high) P, mul-sub S (exact Down s) (exact Down b)),
           omega (arith, sub-mul (f .high) (h .low) P, mul-sub S (exact Down s) (exact Down b)),
         )
+
+    -- so the high is no truncated difference
+    pub broken-sound : figure b limit .low ≤ figure s limit .high
+    broken-sound =
+        le-of-mul-le-mul-right (le-trans (bracket b broken-plain limit .0) (le-trans (mul-le-mul-left S sound-broken) (bracket s sound-plain limit .1))) (power-pos fewer)
 
     pub importance-nesting : (larger : ℕ) → limit ≤ larger → (importance g i limit .low ≤ importance g i larger .low) × (importance g i larger .high ≤ importance g i limit .high)
     importance-nesting larger h =

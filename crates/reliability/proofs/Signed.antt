@@ -5,7 +5,7 @@ use mathlib.Core.Bool.{Bool, true, false, cond}
 use native.Mathlib.Nat.{add-zero, sub-zero, mul-le-mul-right, le-of-lt}
 use native.Mathlib.Omega.{arith}
 use lib.IntN.{ℤ, pos, negsuc, negℤ, subℕ, _+ℤ_, _-ℤ_, _*ℤ_, +ℤ-assoc, +ℤ-comm}
-use lib.Signed.{_≤ℤ_}
+use lib.Signed.{_≤ℤ_, mag}
 use lib.Dec.{ltb, le→leb}
 use borrow.Author.Tests.{ltb-true, ltb-false, lt-ltb, le-ltb}
 use Rattle.rounding.proofs.Laws.{sub-mul}
@@ -68,3 +68,11 @@ minus-mul a b c = ap (λ z. z *ℤ pos c) (minus-is a b) ∙ go (ltb a b) refl �
 
 pub minus-add : (a b w : ℕ) → (pos a -ℤ pos b) +ℤ pos w ≡ pos (a + w) -ℤ pos b
 minus-add a b w = +ℤ-assoc (pos a) (negℤ (pos b)) (pos w) ∙ ap (λ z. pos a +ℤ z) (+ℤ-comm (negℤ (pos b)) (pos w)) ∙ sym (+ℤ-assoc (pos a) (pos w) (negℤ (pos b)))
+
+-- a difference lies in the range of its parts
+pub minus-range : (a b M : ℕ) → a < M → b < M → mag (pos a -ℤ pos b) < M
+minus-range a b M h k = rw (minus-is a b) (go (ltb a b) refl)
+  where
+    go : (s : Bool) → ltb a b ≡ s → mag (subℕ a b) < M
+    go true p = let x = ltb-true a b p in rw (below a b x) (omega arith)
+    go false p = let x = ltb-false a b p in rw (above a b x) (omega arith)

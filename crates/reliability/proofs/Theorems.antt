@@ -24,7 +24,7 @@ use Rattle.reliability.proofs.Enclosure.{Encloses, enclosed}
 sized : (g : Network) → Valid g → Sized (length (g .links)) g
 sized g valid = record { valid = valid; size = refl }
 
-power-pos : (m : ℕ) → 0 < S ^ m
+pub power-pos : (m : ℕ) → 0 < S ^ m
 power-pos m = one-le-pow m S (lit< tt)
 
 -- ---- from a link's low and high value to the exact weights between them

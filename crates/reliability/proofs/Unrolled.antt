@@ -81,6 +81,27 @@ module _ (g : Network) (valid : Valid g) where
       ∙ ap (λ m. blend e (figure s l) (figureOf m b (l - figure s l .steps))) same
       ∙ rw h at (unrolled (suc l) s (k .0 .size))
 
+-- a valid network with fewer links than g
+pub record Below (g h : Network) : Type 0 where
+  pub valid : Valid h
+  pub fewer : length (h .links) < length (g .links)
+
+less-below : {g h : Network} → Less g h → Below g h
+less-below l = let e = l .size in record { valid = l .valid; fewer = omega arith }
+
+module _ (g : Network) (valid : Valid g) where
+  pub below-rest : (h : Network) → leaves g (next g) ≡ rest h → Below g h
+  below-rest h e = less-below (rw e at (remains g valid))
+
+  pub below-scaled : (k : Direction → ℕ) (h : Network) → leaves g (next g) ≡ scaled k h → Below g h
+  below-scaled k h e = let l = rw e at (remains g valid) in less-below (l .0)
+
+  pub below-sound : (e : Link) (s b : Network) → leaves g (next g) ≡ branches e s b → Below g s
+  below-sound e s b h = let l = rw h at (remains g valid) in less-below (l .0)
+
+  pub below-broken : (e : Link) (s b : Network) → leaves g (next g) ≡ branches e s b → Below g b
+  below-broken e s b h = let l = rw h at (remains g valid) in less-below (l .1)
+
 -- what is known of a figure: its range, its steps
 pub figure-range : (d : Direction) (g : Network) (limit : ℕ) → Valid g → side d (figure g limit) ≤ S
 figure-range d g limit valid = range-of d (length (g .links)) g limit (record { valid = valid; size = refl })

@@ -77,15 +77,16 @@ abbrev pub _otherwise_ : Option Step → Step → Step
 _otherwise_ (some s) t = s
 _otherwise_ none t = t
 
+-- the first of steps 1 to 7 that fits
 unfoldable pub next : Network → Step
 next g =
-    Option·map Loop (firstAt isLoop (g .links))  -- 1
-    otherwise when (leb (length (g .nodes)) 1) OneNode  -- 2
-    otherwise when (not (connected (g .nodes) (map ends (g .links)))) Disconnected  -- 3
-    otherwise Option·map (λ ij. Parallel (ij .0) (ij .1)) (firstPair (g .links))  -- 4
-    otherwise lowest endOf (g .links) (g .nodes)  -- 5
-    otherwise lowest seriesOf (g .links) (g .nodes)  -- 6
-    otherwise Split (chosen g)  -- 7
+    Option·map Loop (firstAt isLoop (g .links))  -- 1: a loop, the first
+    otherwise when (leb (length (g .nodes)) 1) OneNode  -- 2: one node left
+    otherwise when (not (connected (g .nodes) (map ends (g .links)))) Disconnected  -- 3: not connected
+    otherwise Option·map (λ ij. Parallel (ij .0) (ij .1)) (firstPair (g .links))  -- 4: parallel
+    otherwise lowest endOf (g .links) (g .nodes)  -- 5: end
+    otherwise lowest seriesOf (g .links) (g .nodes)  -- 6: series
+    otherwise Split (chosen g)  -- 7: split
 
 -- ---- what a step leaves
 
@@ -142,6 +143,7 @@ pub data Remainder : Type 0 where
   scaled : (Direction → ℕ) → Network → Remainder
   branches : Link → Network → Network → Remainder
 
+-- what each step leaves
 unfoldable pub leaves : Network → Step → Remainder
 leaves g OneNode = settled S
 leaves g Disconnected = settled 0
@@ -164,9 +166,11 @@ abbrev pub side : Direction → Figure → ℕ
 side Down f = f .low
 side Up f = f .high
 
+-- the figure of the rest, multiplied by a factor over S
 abbrev pub times : (Direction → ℕ) → Figure → Figure
 times k f = bounded (λ d. product d (k d) (side d f)) (f .steps) (f .finished)
 
+-- the figure of a split on link e, from the figures of the sound and the broken branch
 abbrev pub blend : Link → Figure → Figure → Figure
 blend e s t = bounded (λ d. split d (value d e) (side d s) (side d t)) (suc (s .steps + t .steps)) (s .finished && t .finished)
 
@@ -184,7 +188,7 @@ worked work (suc limit) (branches e sound broken) =
     let s = work sound limit in
     blend e s (work broken (limit - s .steps))
 
--- the figure of a network of m links: each step leaves one link less
+-- the figure of a network of m links: each step leaves one link less, and a network without links is settled
 unfoldable pub figureOf : ℕ → Network → ℕ → Figure
 figureOf zero g limit = worked (λ h l. unfinished) limit (leaves g (next g))
 figureOf (suc m) g limit = worked (figureOf m) limit (leaves g (next g))

@@ -1,0 +1,13 @@
+use Rattle.bits.proofs.Operations.{digits-cleared}
+use borrow.Author.Needs.{needs}
+use Rattle.bits.proofs.without_lowest.Statement.{statement}
+use Rattle.bits.proofs.without_lowest.Tie as tie
+
+sub-result : tie.Need-sub-result
+sub-result c = search needs
+
+returns : tie.Need-returns
+returns c = digits-cleared 64 (c .args .s) (c .pre)
+
+pub without-lowest-spec : {M : Type 1} → statement M
+without-lowest-spec = tie.close (tie.spec sub-result returns)

@@ -1,0 +1,121 @@
+-- The three demands on a figure, over what the call returns and the numbers that it leaves in the answer buffer.
+use Prim.Native.Nat.{ℕ, _+_, _*_, _^_, _≤_, min}
+use mathlib.Core.Path.{_≡_, refl, ap, _∙_, subst}
+use mathlib.Core.List.{List}
+use mathlib.Core.Logic.{_⊎_, _↔_, Iff·trans}
+use mathlib.Core.Bool.{cond}
+use native.Mathlib.Omega.{arith}
+use lib.ListN.{length}
+use Rattle.rounding.specs.Rounding.{S}
+use Rattle.rounding.specs.declared.Direction.the-variants.{Down}
+use Rattle.reliability.specs.declared.Figure.{Figure}
+use Rattle.reliability.specs.Networks.{Network, Valid}
+use Rattle.reliability.specs.Exact.{exact}
+use Rattle.reliability.specs.Rule.{figure, needed}
+use Rattle.reliability.proofs.Theorems as rule
+use Rattle.plan.specs.declared.Verdict.{Verdict}
+use Rattle.plan.specs.declared.Verdict.the-variants.{Accepted}
+use Rattle.plan.specs.Plans.{WellFormed, sizeN, sizeM, verdict, returned, planOf}
+use Rattle.plan.proofs.Verdicts.{accepted-means}
+use Rattle.plan.proofs.Accepted.{plan-equal, plan-links, plan-nodes}
+use Rattle.desk.specs.Outcomes.{withFigure, Outcome, figureVerdict, checkOutcome, figureOutcome}
+use Rattle.desk.specs.Answers.{lowIn, highIn, stepsIn, finishedIn, Holds, LiesWithin, Marked, Full, Refusal}
+use Rattle.desk.proofs.Answers.{full-or-refused, returned-alone, zero-alone, figure-means, valid-of, read-back, marked, mark-true}
+
+-- demand 1: check accepts a plan that meets none of the causes 1 to 6, and no other
+pub check-accepted : (plan : List ℕ) → checkOutcome plan ≡ 0 ↔ WellFormed plan
+unfolding checkOutcome
+check-accepted plan = Iff·trans (zero-alone (verdict plan) refl) (accepted-means plan)
+
+module _ (plan : List ℕ) (limit : ℕ) (b : List ℕ) where
+  abbrev o : Outcome
+  o = figureOutcome plan limit b
+
+  abbrev v : Verdict
+  v = figureVerdict plan limit (length b)
+
+  abbrev g : Network
+  g = planOf plan
+
+  abbrev f : Figure
+  f = figure g limit
+
+  -- demand 1: either a full answer or a numbered refusal with the buffer untouched
+  pub figure-full-or-refused : Full o b (withFigure f b) ⊎ Refusal o b
+  unfolding figureOutcome
+  figure-full-or-refused = full-or-refused f b v Accepted (λ e. figure-means plan limit (length b) .0 e .1)
+
+  -- demand 1: the number is that of the first cause in the table's order, 0 if there is none
+  pub figure-returned : o .returned ≡ returned v
+  unfolding figureOutcome
+  figure-returned = returned-alone f b v
+
+  -- demand 1: 0 exactly when the verdict is accepted
+  pub figure-zero : o .returned ≡ 0 ↔ v ≡ Accepted
+  figure-zero = zero-alone v figure-returned
+
+  -- demand 1: a call that meets none of its rows is accepted, and no other
+  pub figure-accepted : o .returned ≡ 0 ↔ (limit ≤ 1000000) × (16 ≤ length b) × WellFormed plan
+  figure-accepted = Iff·trans figure-zero (figure-means plan limit (length b))
+
+  -- a call that returned 0, and the buffer that it left
+  module _ (zero : o .returned ≡ 0) where
+    abbrev after : List ℕ
+    after = o .buffer
+
+    abbrev m : ℕ
+    m = sizeM plan
+
+    abbrev n : ℕ
+    n = sizeN plan
+
+    abbrev N : ℕ
+    N = exact Down g
+
+    well : WellFormed plan
+    well = figure-accepted .0 zero .2
+
+    valid : Valid g
+    valid = valid-of plan well
+
+    range : (f .low ≤ f .high) × (f .high ≤ S)
+    range = (rule.low-high g valid limit (plan-equal plan), rule.high-range g valid limit)
+
+    -- demand 3: its low and its high equal those that the written rule gives under that limit
+    pub figure-numbers : Holds after f
+    figure-numbers =
+        read-back f b figure-full-or-refused zero (omega (arith, range, figure-accepted .0 zero .0, rule.steps-taken g valid limit))
+
+    -- demand 2: low × S^m ≤ S × N ≤ high × S^m, also when steps run out
+    pub figure-encloses : (lowIn after * S ^ m ≤ S * N) × (S * N ≤ highIn after * S ^ m)
+    figure-encloses =
+        rw (figure-numbers .low, figure-numbers .high)
+        (subst (λ (k : ℕ). (f .low * S ^ k ≤ S * N) × (S * N ≤ f .high * S ^ k)) (plan-links plan) (rule.enclosure-of-equal g valid limit (plan-equal plan)))
+
+    -- from 0 to S, low no higher than high
+    pub figure-range : (lowIn after ≤ highIn after) × (highIn after ≤ S)
+    figure-range = omega (arith, figure-numbers, range)
+
+    -- demand 3: its step count equals the smaller of the splits needed and the limit
+    pub figure-steps : stepsIn after ≡ min (needed g) limit
+    figure-steps = figure-numbers .steps ∙ rule.steps-taken g valid limit
+
+    -- demand 3: marked unfinished exactly when the plan needs more splits, by the written rule, than its limit
+    pub figure-marked : Marked (finishedIn after) (needed g) limit
+    figure-marked = marked (needed g) limit (figure-numbers .finished ∙ ap (λ t. cond t 1 0) (rule.finished-when g valid limit))
+
+    -- demand 3: a finished pair is at most 2m + 4n wide, however many splits it took
+    pub figure-width : finishedIn after ≡ 1 → highIn after ≤ lowIn after + (2 * m + 4 * n)
+    figure-width done =
+        let w = rule.width g valid limit (plan-equal plan) (mark-true (f .finished) (figure-numbers .finished) done) in
+        omega (arith, figure-numbers, plan-links plan, plan-nodes plan)
+
+    -- so no plan's 0 to S is finished
+    pub figure-narrow : finishedIn after ≡ 1 → highIn after ≤ lowIn after + 256
+    figure-narrow done = omega (arith, figure-width done, well .nodes, well .links)
+
+-- demand 3: whichever two accepted limits, the second no smaller than the first, the second pair lies within the first
+pub figure-nesting : (plan : List ℕ) (limit larger : ℕ) (b c : List ℕ) → figureOutcome plan limit b .returned ≡ 0 → figureOutcome plan larger c .returned ≡ 0
+    → limit ≤ larger → LiesWithin (figureOutcome plan larger c .buffer) (figureOutcome plan limit b .buffer)
+figure-nesting plan limit larger b c p q h =
+    omega (arith, figure-numbers plan limit b p, figure-numbers plan larger c q, rule.nesting (planOf plan) (valid plan limit b p) limit larger h)

@@ -1,0 +1,148 @@
+-- The demands on a difference, over what the call returns and the numbers that it leaves in the answer buffer.
+use Prim.Native.Nat.{ℕ, _+_, _*_, _^_, _≤_, _<_, min, max}
+use mathlib.Core.Path.{_≡_, ap, ap₂, _∙_, subst}
+use mathlib.Core.List.{List}
+use mathlib.Core.Logic.{_⊎_, _↔_}
+use mathlib.Core.Bool.{cond}
+use native.Mathlib.Omega.{arith}
+use lib.IntN.{ℤ, pos, negℤ, _+ℤ_, _*ℤ_}
+use lib.ListN.{length}
+use lib.Signed.{_≤ℤ_, mag}
+use Rattle.rounding.specs.Rounding.{S}
+use Rattle.reliability.specs.declared.Figure.{Figure}
+use Rattle.reliability.specs.declared.Difference.{Difference}
+use Rattle.reliability.specs.Networks.{Network, Valid}
+use Rattle.reliability.specs.Rule.{figure, needed}
+use Rattle.reliability.specs.Comparisons.{difference, exactDifference}
+use Rattle.reliability.proofs.Signed.{minus-range}
+use Rattle.reliability.proofs.Theorems.{high-range, low-high}
+use Rattle.reliability.proofs.Comparisons as rule
+use Rattle.plan.specs.declared.Verdict.{Verdict}
+use Rattle.plan.specs.declared.Verdict.the-variants.{Accepted}
+use Rattle.plan.specs.Plans.{WellFormed, sizeN, sizeM, verdict, planOf}
+use Rattle.plan.proofs.Verdicts.{accepted-means}
+use Rattle.plan.proofs.Accepted.{plan-equal, plan-links, plan-nodes}
+use Rattle.desk.specs.Outcomes.{twos, withDifference, Outcome, figureVerdict, differenceOutcome}
+use Rattle.desk.specs.Answers.{lowIn, highIn, stepsIn, finishedIn, signed, HoldsSigned, LiesWithinSigned, Marked, Full, Refusal, returnedOfBoth}
+use Rattle.desk.proofs.Answers.{full-or-refused, returned-of-both, zero-both, figure-means, valid-of, read-back, signed-back, twos-range, marked, both-finished, mark-true}
+
+module _ (first second : List ℕ) (limit : ℕ) (b : List ℕ) where
+  abbrev o : Outcome
+  o = differenceOutcome first second limit b
+
+  abbrev v : Verdict
+  v = figureVerdict first limit (length b)
+
+  abbrev w : Verdict
+  w = verdict second
+
+  abbrev g : Network
+  g = planOf first
+
+  abbrev h : Network
+  h = planOf second
+
+  abbrev d : Difference
+  d = difference g h limit
+
+  -- the four numbers as they are written
+  abbrev bits : Figure
+  bits = record { low = twos (d .low); high = twos (d .high); steps = d .steps; finished = d .finished }
+
+  -- demand 1: either a full answer or a numbered refusal with the buffer untouched
+  pub difference-full-or-refused : Full o b (withDifference d b) ⊎ Refusal o b
+  unfolding differenceOutcome
+  difference-full-or-refused = full-or-refused bits b v w (λ e. figure-means first limit (length b) .0 e .1)
+
+  -- demand 1: the number is that of the first cause in the table's order, plan B's plus 20, 0 if there is none
+  pub difference-returned : o .returned ≡ returnedOfBoth v w
+  unfolding differenceOutcome
+  difference-returned = returned-of-both bits b v w
+
+  -- demand 1: 0 exactly when both verdicts are accepted
+  pub difference-zero : o .returned ≡ 0 ↔ (v ≡ Accepted) × (w ≡ Accepted)
+  difference-zero = zero-both v w difference-returned
+
+  -- demand 1: a call that meets none of its rows is accepted, and no other
+  pub difference-accepted : o .returned ≡ 0 ↔ (limit ≤ 1000000) × (16 ≤ length b) × WellFormed first × WellFormed second
+  difference-accepted =
+      let z = difference-zero in
+      let p = figure-means first limit (length b) in
+      let q = accepted-means second in
+      (λ e. let c = p .0 (z .0 e .0) in (c .0, c .1, c .2, q .0 (z .0 e .1)), λ c. z .1 (p .1 (c .0, c .1, c .2), q .1 (c .3)))
+
+  -- a call that returned 0, and the buffer that it left
+  module _ (zero : o .returned ≡ 0) where
+    abbrev after : List ℕ
+    after = o .buffer
+
+    abbrev low : ℤ
+    low = signed (lowIn after)
+
+    abbrev high : ℤ
+    high = signed (highIn after)
+
+    -- m + m′
+    abbrev links : ℕ
+    links = sizeM first + sizeM second
+
+    gv : Valid g
+    gv = valid-of first (difference-accepted .0 zero .2)
+
+    hv : Valid h
+    hv = valid-of second (difference-accepted .0 zero .3)
+
+    small : (mag (d .low) < 2 ^ 31) × (mag (d .high) < 2 ^ 31)
+    small =
+        let x = low-high g gv limit (plan-equal first) in
+        let y = low-high h hv limit (plan-equal second) in
+        let p = high-range g gv limit in
+        let q = high-range h hv limit in (
+          minus-range (figure g limit .low) (figure h limit .high) (2 ^ 31) (omega arith) (omega arith),
+          minus-range (figure g limit .high) (figure h limit .low) (2 ^ 31) (omega arith) (omega arith),
+        )
+
+    -- demand 3, likewise: its low and its high equal those that the written rule gives under that limit
+    pub difference-numbers : HoldsSigned after d
+    difference-numbers =
+        let most = difference-accepted .0 zero .0 in
+        let taken = rule.difference-steps g h gv hv (plan-equal first) (plan-equal second) limit in
+        let n = read-back bits b difference-full-or-refused zero (twos-range (d .low) (small .0), twos-range (d .high) (small .1), omega arith) in
+        record { low = ap signed (n .low) ∙ signed-back (d .low) (small .0); high = ap signed (n .high) ∙ signed-back (d .high) (small .1); steps = n .steps; finished = n .finished }
+
+    -- demand 2: low × S^(m+m′) ≤ S × (A − B) ≤ high × S^(m+m′)
+    pub difference-encloses : ((low *ℤ pos (S ^ links)) ≤ℤ (pos S *ℤ exactDifference g h)) × ((pos S *ℤ exactDifference g h) ≤ℤ (high *ℤ pos (S ^ links)))
+    difference-encloses =
+        rw (difference-numbers .low, difference-numbers .high)
+        (subst (λ (k : ℕ). ((d .low *ℤ pos (S ^ k)) ≤ℤ (pos S *ℤ exactDifference g h)) × ((pos S *ℤ exactDifference g h) ≤ℤ (d .high *ℤ pos (S ^ k))))
+        (ap₂ _+_ (plan-links first) (plan-links second)) (rule.difference-enclosure g h gv hv (plan-equal first) (plan-equal second) limit))
+
+    -- from −S to S, low no higher than high
+    pub difference-range : (negℤ (pos S) ≤ℤ low) × (low ≤ℤ high) × (high ≤ℤ pos S)
+    difference-range = rw (difference-numbers .low, difference-numbers .high) (rule.difference-range g h gv hv (plan-equal first) (plan-equal second) limit)
+
+    -- demand 3, likewise: each of the two evaluations gets the whole limit; steps add
+    pub difference-steps : stepsIn after ≡ min (needed g) limit + min (needed h) limit
+    difference-steps = difference-numbers .steps ∙ rule.difference-steps g h gv hv (plan-equal first) (plan-equal second) limit
+
+    -- demand 3, likewise: finished if both evaluations are
+    pub difference-marked : Marked (finishedIn after) (max (needed g) (needed h)) limit
+    difference-marked =
+        let both = rule.difference-finished g h gv hv (plan-equal first) (plan-equal second) limit ∙ both-finished (needed g) (needed h) limit in
+        marked (max (needed g) (needed h)) limit (difference-numbers .finished ∙ ap (λ t. cond t 1 0) both)
+
+    -- demand 3, likewise: a finished pair is no wider than its two evaluations' bounds together
+    pub difference-width : finishedIn after ≡ 1 → high ≤ℤ (low +ℤ pos ((2 * sizeM first + 4 * sizeN first) + (2 * sizeM second + 4 * sizeN second)))
+    difference-width done =
+        let wide = rule.difference-width g h gv hv (plan-equal first) (plan-equal second) limit (mark-true (d .finished) (difference-numbers .finished) done) in
+        rw (difference-numbers .low, difference-numbers .high)
+        (subst (λ (k : ℕ). d .high ≤ℤ (d .low +ℤ pos k)) (omega (arith, plan-links first, plan-nodes first, plan-links second, plan-nodes second)) wide)
+
+-- demand 3, likewise: with a larger limit and all else alike the second pair lies within the first
+pub difference-nesting : (first second : List ℕ) (limit larger : ℕ) (b c : List ℕ) → differenceOutcome first second limit b .returned ≡ 0 → differenceOutcome first second larger c .returned ≡ 0
+    → limit ≤ larger → LiesWithinSigned (differenceOutcome first second larger c .buffer) (differenceOutcome first second limit b .buffer)
+difference-nesting first second limit larger b c p q l =
+    let x = difference-numbers first second limit b p in
+    let y = difference-numbers first second larger c q in
+    let nested = rule.difference-nesting (planOf first) (planOf second) (gv first second limit b p) (hv first second limit b p) (plan-equal first) (plan-equal second) limit larger l in
+    record { low = rw (x .low, y .low) (nested .0); high = rw (x .high, y .high) (nested .1) }

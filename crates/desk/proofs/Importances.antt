@@ -1,0 +1,126 @@
+-- The demands on an importance, over what the call returns and the numbers that it leaves in the answer buffer.
+use Prim.Native.Nat.{ℕ, _+_, _-_, _*_, _^_, _≤_, _<_, min, max}
+use mathlib.Core.Path.{_≡_, ap, _∙_, subst}
+use mathlib.Core.List.{List}
+use mathlib.Core.Logic.{_⊎_, _↔_, Iff·trans}
+use mathlib.Core.Bool.{cond}
+use native.Mathlib.Omega.{arith}
+use lib.ListN.{length}
+use Rattle.rounding.specs.Rounding.{S}
+use Rattle.reliability.specs.declared.Figure.{Figure}
+use Rattle.reliability.specs.Networks.{Network, Valid}
+use Rattle.reliability.specs.Rule.{needed}
+use Rattle.reliability.specs.Comparisons.{soundAt, brokenAt, importance, exactImportance}
+use Rattle.reliability.proofs.Comparisons as rule
+use Rattle.plan.specs.declared.Verdict.{Verdict}
+use Rattle.plan.specs.declared.Verdict.the-variants.{Accepted}
+use Rattle.plan.specs.Plans.{WellFormed, sizeM, returned, planOf}
+use Rattle.plan.proofs.Accepted.{plan-equal, plan-links}
+use Rattle.desk.specs.Outcomes.{withFigure, placed, Outcome, figureVerdict, importanceVerdict, importanceOutcome}
+use Rattle.desk.specs.Answers.{lowIn, highIn, stepsIn, finishedIn, Holds, LiesWithin, Marked, Full, Refusal}
+use Rattle.desk.proofs.Answers.{full-or-refused, returned-alone, zero-alone, also-means, placed-means, figure-means, valid-of, read-back, marked, both-finished, mark-true}
+
+module _ (plan : List ℕ) (place limit : ℕ) (b : List ℕ) where
+  abbrev o : Outcome
+  o = importanceOutcome plan place limit b
+
+  abbrev v : Verdict
+  v = importanceVerdict plan place limit (length b)
+
+  abbrev g : Network
+  g = planOf plan
+
+  abbrev f : Figure
+  f = importance g place limit
+
+  -- the causes of a figure, then the place
+  means : v ≡ Accepted ↔ (limit ≤ 1000000) × (16 ≤ length b) × WellFormed plan × (place < sizeM plan)
+  means =
+      let w = figure-means plan limit (length b) in
+      let p = placed-means plan place in
+      let e = also-means (figureVerdict plan limit (length b)) (placed plan place) in
+      (λ h. let c = w .0 (e .0 h .0) in (c .0, c .1, c .2, p .0 (e .0 h .1)), λ h. e .1 (w .1 (h .0, h .1, h .2), p .1 (h .3)))
+
+  -- demand 1: either a full answer or a numbered refusal with the buffer untouched
+  pub importance-full-or-refused : Full o b (withFigure f b) ⊎ Refusal o b
+  unfolding importanceOutcome
+  importance-full-or-refused = full-or-refused f b v Accepted (λ e. means .0 e .1)
+
+  -- demand 1: the number is that of the first cause in the table's order, 0 if there is none
+  pub importance-returned : o .returned ≡ returned v
+  unfolding importanceOutcome
+  importance-returned = returned-alone f b v
+
+  -- demand 1: 0 exactly when the verdict is accepted
+  pub importance-zero : o .returned ≡ 0 ↔ v ≡ Accepted
+  importance-zero = zero-alone v importance-returned
+
+  -- demand 1: a call that meets none of its rows is accepted, and no other
+  pub importance-accepted : o .returned ≡ 0 ↔ (limit ≤ 1000000) × (16 ≤ length b) × WellFormed plan × (place < sizeM plan)
+  importance-accepted = Iff·trans importance-zero means
+
+  -- a call that returned 0, and the buffer that it left
+  module _ (zero : o .returned ≡ 0) where
+    abbrev after : List ℕ
+    after = o .buffer
+
+    abbrev fewer : ℕ
+    fewer = sizeM plan - 1
+
+    abbrev sound : Network
+    sound = soundAt place g
+
+    abbrev broken : Network
+    broken = brokenAt place g
+
+    abbrev exactly : ℕ
+    exactly = exactImportance g place
+
+    valid : Valid g
+    valid = valid-of plan (importance-accepted .0 zero .2)
+
+    present : place < length (g .links)
+    present = omega (arith, importance-accepted .0 zero .3, plan-links plan)
+
+    range : (f .low ≤ f .high) × (f .high ≤ S)
+    range = rule.importance-range g valid (plan-equal plan) place present limit
+
+    -- demand 3, likewise: its low and its high equal those that the written rule gives under that limit
+    pub importance-numbers : Holds after f
+    importance-numbers =
+        read-back f b importance-full-or-refused zero (omega (arith, range, importance-accepted .0 zero .0, rule.importance-steps g valid (plan-equal plan) place present limit))
+
+    -- demand 2: low × S^(m−1) ≤ S × (sound − broken) ≤ high × S^(m−1)
+    pub importance-encloses : (lowIn after * S ^ fewer ≤ S * exactly) × (S * exactly ≤ highIn after * S ^ fewer)
+    importance-encloses =
+        rw (importance-numbers .low, importance-numbers .high)
+        (subst (λ (k : ℕ). (f .low * S ^ (k - 1) ≤ S * exactly) × (S * exactly ≤ f .high * S ^ (k - 1))) (plan-links plan)
+        (rule.importance-enclosure g valid (plan-equal plan) place present limit))
+
+    -- from 0 to S, low no higher than high
+    pub importance-range : (lowIn after ≤ highIn after) × (highIn after ≤ S)
+    importance-range = omega (arith, importance-numbers, range)
+
+    -- demand 3, likewise: each of the two evaluations gets the whole limit; steps add
+    pub importance-steps : stepsIn after ≡ min (needed sound) limit + min (needed broken) limit
+    importance-steps = importance-numbers .steps ∙ rule.importance-steps g valid (plan-equal plan) place present limit
+
+    -- demand 3, likewise: finished if both evaluations are
+    pub importance-marked : Marked (finishedIn after) (max (needed sound) (needed broken)) limit
+    importance-marked =
+        let both = rule.importance-finished g valid (plan-equal plan) place present limit ∙ both-finished (needed sound) (needed broken) limit in
+        marked (max (needed sound) (needed broken)) limit (importance-numbers .finished ∙ ap (λ t. cond t 1 0) both)
+
+    -- demand 3, likewise: a finished pair is no wider than its two evaluations' bounds together
+    pub importance-width : finishedIn after ≡ 1
+        → highIn after ≤ lowIn after + ((2 * fewer + 4 * length (sound .nodes)) + (2 * fewer + 4 * length (broken .nodes)))
+    importance-width done =
+        let w = rule.importance-width g valid (plan-equal plan) place present limit (mark-true (f .finished) (importance-numbers .finished) done) in
+        omega (arith, importance-numbers, plan-links plan)
+
+-- demand 3, likewise: with a larger limit and all else alike the second pair lies within the first
+pub importance-nesting : (plan : List ℕ) (place limit larger : ℕ) (b c : List ℕ) → importanceOutcome plan place limit b .returned ≡ 0 → importanceOutcome plan place larger c .returned ≡ 0
+    → limit ≤ larger → LiesWithin (importanceOutcome plan place larger c .buffer) (importanceOutcome plan place limit b .buffer)
+importance-nesting plan place limit larger b c p q h =
+    let nested = rule.importance-nesting (planOf plan) (valid plan place limit b p) (plan-equal plan) place (present plan place limit b p) limit larger h in
+    omega (arith, importance-numbers plan place limit b p, importance-numbers plan place larger c q)

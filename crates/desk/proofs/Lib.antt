@@ -1,0 +1,7 @@
+pub mod Words
+pub mod Twos
+pub mod Calls
+pub mod Answers
+pub mod Demands
+pub mod Importances
+pub mod Differences

@@ -1,0 +1,86 @@
+use Prim.Native.Nat.{_≤_}
+use mathlib.Core.Path.{_≡_, sym, ap, _∙_, subst}
+use native.Mathlib.Omega.{arith}
+use lib.ListN.{length}
+use Rattle.reliability.specs.declared.Figure.{Figure}
+use Rattle.reliability.specs.Networks.{Network as Graph, Valid}
+use Rattle.reliability.specs.Rule.{figure}
+use Rattle.plan.specs.declared.Verdict.the-variants.{Accepted}
+use Rattle.plan.specs.Plans.{verdict, returned, planOf}
+use Rattle.plan.proofs.Accepted.{plan-valid}
+use Rattle.desk.specs.Outcomes.{asked, figureVerdict, figureOutcome, accepted, withFigure, Outcome}
+use Rattle.plan.proofs.Verdicts.{both-accepted}
+use Rattle.desk.proofs.Calls.{asked-accepted, refused, answers}
+use borrow.Author.Needs.{needs}
+use Rattle.desk.proofs.figure.Statement.{statement}
+use Rattle.desk.proofs.figure.Tie as tie
+
+figure-verdict-requires : tie.Need-figure-verdict-requires
+figure-verdict-requires c κs = search needs
+
+enum-told : tie.Need-enum-told
+enum-told c = search needs
+
+returned-requires : tie.Need-returned-requires
+returned-requires c κs = search needs
+
+returns : tie.Need-returns
+unfolding figureOutcome
+returns c =
+    let v = c .before .before .before .figure-verdict in
+    let a = c .before .before .before .before .before .before .args in
+    let r = refused (figureVerdict (a .plan .now) (a .limit) (length (a .answer .now))) _ (a .answer .now) (accepted (withFigure (figure (planOf (a .plan .now)) (a .limit)) (a .answer .now))) (sym (v .ensures) ∙ c .before .enum-told .given .1) in
+    (c .returned .ensures ∙ ap returned (v .ensures) ∙ r .0, r .1)
+
+enum-told-2 : tie.Need-enum-told-2
+enum-told-2 c = search needs
+
+ok : (c : tie.After-enum-told2) → let a = c .before .before .before .before .before .args in figureVerdict (a .plan .now) (a .limit) (length (a .answer .now)) ≡ Accepted
+ok c = sym (c .before .before .figure-verdict .ensures) ∙ c .enum-told2 .given .1
+
+-- the limit and the buffer were accepted, and then the plan
+asks : (c : tie.After-enum-told2) → let a = c .before .before .before .before .before .args in (a .limit ≤ 1000000) × (16 ≤ length (a .answer .now)) × (verdict (a .plan .now) ≡ Accepted)
+asks c =
+    let a = c .before .before .before .before .before .args in
+    let (x, y) = both-accepted (asked (a .limit) (length (a .answer .now))) (verdict (a .plan .now)) (ok c) in
+    let (l, r) = asked-accepted (a .limit) (length (a .answer .now)) x in
+    (l, r, y)
+
+network-of-requires : tie.Need-network-of-requires
+network-of-requires c κs = asks c .2
+
+work-requires : tie.Need-work-requires
+work-requires c κs =
+    let k = asks (c .before) in
+    (subst Valid (sym (c .network-of .ensures .0)) (plan-valid (c .before .before .before .before .before .before .args .plan .now) (k .2)), omega (arith, k .0))
+
+put-answer-requires : tie.Need-put-answer-requires
+put-answer-requires c κs = asks (c .before .before .before) .1
+
+same-length : tie.Need-same-length
+same-length c = search needs
+
+returns-2 : tie.Need-returns-2
+unfolding figureOutcome
+returns-2 c =
+    let a = c .before .before .before .before .before .before .before .before .before .before .before .args in
+    let b = a .answer .now in
+    let e = answers (figureVerdict (a .plan .now) (a .limit) (length (a .answer .now))) b (accepted (withFigure (figure (planOf (a .plan .now)) (a .limit)) b)) (ok (c .before .before .before .before .before .before)) in (
+      ap (λ (o : Outcome). o .returned) e,
+      c .before .before .put-answer .ensures ∙ ap (λ (f : Figure). withFigure f b) (c .before .before .before .before .work .ensures ∙ ap (λ (h : Graph). figure h (a .limit)) (c .before .before .before .before .before .network-of .ensures .0)) ∙ ap (λ (o : Outcome). o .buffer) e,
+    )
+
+pub figure-spec : {M : Type 1} → statement M
+figure-spec =
+    tie.close
+    (tie.spec
+    figure-verdict-requires
+    enum-told
+    returned-requires
+    returns
+    enum-told-2
+    network-of-requires
+    work-requires
+    put-answer-requires
+    same-length
+    returns-2)

@@ -1,0 +1,82 @@
+-- How an answer is read back, and the words in which the demands speak of an outcome.
+use Prim.Native.Nat.{ℕ, _+_, _≤_, _<_}
+use mathlib.Core.Path.{_≡_}
+use mathlib.Core.List.{List}
+use mathlib.Core.Logic.{_↔_}
+use mathlib.Core.Bool.{cond}
+use lib.Dec.{ltb}
+use lib.IntN.{ℤ, pos, _-ℤ_}
+use lib.ListN.{length, drop}
+use lib.Signed.{_≤ℤ_}
+use Rattle.reliability.specs.declared.Figure.{Figure}
+use Rattle.reliability.specs.declared.Difference.{Difference}
+use Rattle.plan.specs.declared.Verdict.{Verdict}
+use Rattle.plan.specs.declared.Verdict.the-variants.{Accepted, Refused}
+use Rattle.plan.specs.Plans.{word32, returned}
+use Rattle.desk.specs.Outcomes.{Outcome}
+
+-- ---- the four numbers in a buffer
+
+unfoldable pub lowIn : List ℕ → ℕ
+lowIn b = word32 b 0
+
+unfoldable pub highIn : List ℕ → ℕ
+highIn b = word32 b 4
+
+unfoldable pub stepsIn : List ℕ → ℕ
+stepsIn b = word32 b 8
+
+unfoldable pub finishedIn : List ℕ → ℕ
+finishedIn b = word32 b 12
+
+-- a number of 32 bits read as signed: n stands for n, or for n - 2^32 where n is 2^31 or above
+unfoldable pub signed : ℕ → ℤ
+signed n = cond (ltb n 2147483648) (pos n) (pos n -ℤ pos 4294967296)
+
+-- a buffer holds a figure's numbers
+pub record Holds (b : List ℕ) (f : Figure) : Type 0 where
+  pub low : lowIn b ≡ f .low
+  pub high : highIn b ≡ f .high
+  pub steps : stepsIn b ≡ f .steps
+  pub finished : finishedIn b ≡ cond (f .finished) 1 0
+
+-- and a difference's, low and high in two's complement
+pub record HoldsSigned (b : List ℕ) (d : Difference) : Type 0 where
+  pub low : signed (lowIn b) ≡ d .low
+  pub high : signed (highIn b) ≡ d .high
+  pub steps : stepsIn b ≡ d .steps
+  pub finished : finishedIn b ≡ cond (d .finished) 1 0
+
+-- a pair lies within another if its low is no lower and its high no higher
+pub record LiesWithin (second first : List ℕ) : Type 0 where
+  pub low : lowIn first ≤ lowIn second
+  pub high : highIn second ≤ highIn first
+
+pub record LiesWithinSigned (second first : List ℕ) : Type 0 where
+  pub low : signed (lowIn first) ≤ℤ signed (lowIn second)
+  pub high : signed (highIn second) ≤ℤ signed (highIn first)
+
+-- finished, 1, where no more splits are needed than the limit, and unfinished, 0, where more are
+pub record Marked (mark needed limit : ℕ) : Type 0 where
+  pub finished : mark ≡ 1 ↔ needed ≤ limit
+  pub unfinished : mark ≡ 0 ↔ limit < needed
+
+-- ---- an answer or a refusal
+
+-- a full answer: 0 is returned and the buffer holds the answer, its length and its bytes from 16 on as they were
+pub record Full (o : Outcome) (b answer : List ℕ) : Type 0 where
+  pub zero : o .returned ≡ 0
+  pub written : o .buffer ≡ answer
+  pub later : drop 16 (o .buffer) ≡ drop 16 b
+  pub size : length (o .buffer) ≡ length b
+
+-- a numbered refusal, the buffer untouched
+pub record Refusal (o : Outcome) (b : List ℕ) : Type 0 where
+  pub numbered : 1 ≤ o .returned
+  pub untouched : o .buffer ≡ b
+
+-- what a difference returns: plan A's number, or plan B's plus 20
+abbrev pub returnedOfBoth : Verdict → Verdict → ℕ
+returnedOfBoth Accepted Accepted = 0
+returnedOfBoth Accepted (Refused c) = returned (Refused c) + 20
+returnedOfBoth (Refused c) v = returned (Refused c)

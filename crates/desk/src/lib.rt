@@ -1,0 +1,139 @@
+// The planning desk's four calls, for programs in C.
+use plan::Cause;
+use plan::Verdict;
+ghost use mathlib.Core.Path.{_≡_};
+ghost use mathlib.Core.List.{_++_};
+ghost use Prim.Native.Nat.{_+_, _≤_, _<_};
+ghost use lib.ListN.{length, take, drop};
+ghost use Rattle.plan.specs.Plans.{sizeM};
+ghost use Rattle.desk.specs.Outcomes.{le4, twos, answered, asked, placed, figureVerdict, importanceVerdict, checkOutcome, figureOutcome, importanceOutcome, differenceOutcome};
+
+// x, little-endian, in the four bytes from at on.
+fn put_u32(b: &mut [u8], at: usize, x: u32)
+    requires { ⌜ at + 4 ≤ length (now b) ⌝ }
+    ensures { λ _. ⌜ now (b .exit) ≡ take at (now (b .entry)) ++ le4 x ++ drop (at + 4) (now (b .entry)) ⌝ }
+{
+    b[at] = (x % 256) as u8;
+    b[at + 1] = (x / 256 % 256) as u8;
+    b[at + 2] = (x / 65536 % 256) as u8;
+    b[at + 3] = (x / 16777216 % 256) as u8;
+}
+
+// Four numbers in the first sixteen bytes.
+fn put_answer(b: &mut [u8], low: u32, high: u32, steps: u32, finished: bool)
+    requires { ⌜ 16 ≤ length (now b) ⌝ }
+    ensures { λ _. ⌜ now (b .exit) ≡ answered low high steps finished (now (b .entry)) ⌝ }
+{
+    put_u32(b, 0, low);
+    put_u32(b, 4, high);
+    put_u32(b, 8, steps);
+    put_u32(b, 12, finished as u32);
+}
+
+// Two's complement in 32 bits.
+fn bits_of(x: i32) -> u32
+    ensures { λ r. ⌜ r ≡ twos x ⌝ }
+{
+    if x < 0 {
+        ((x as i64) + 4_294_967_296) as u32
+    } else {
+        x as u32
+    }
+}
+
+// Causes 7 and 9.
+fn asked_verdict(limit: u64, room: usize) -> Verdict
+    ensures { λ r. ⌜ r ≡ asked limit room ⌝ }
+{
+    if 1_000_000 < limit {
+        return Verdict::Refused(Cause::Limit);
+    }
+    if room < 16 {
+        return Verdict::Refused(Cause::Buffer);
+    }
+    Verdict::Accepted
+}
+
+// Cause 8.
+fn place_verdict(plan: &[u8], place: u64) -> Verdict
+    requires { ⌜ 4 ≤ length (now plan) ⌝ }
+    ensures { λ r. ⌜ r ≡ placed (now (plan .entry)) place ⌝ }
+{
+    let m = plan::sizes_of(plan).m as u64;
+    if place < m {
+        Verdict::Accepted
+    } else {
+        Verdict::Refused(Cause::Place)
+    }
+}
+
+fn figure_verdict(plan: &[u8], limit: u64, room: usize) -> Verdict
+    ensures { λ r. ⌜ r ≡ figureVerdict (now (plan .entry)) limit room ⌝ }
+{
+    match asked_verdict(limit, room) {
+        Verdict::Accepted => plan::verdict_of(plan),
+        Verdict::Refused(c) => Verdict::Refused(c),
+    }
+}
+
+fn importance_verdict(plan: &[u8], place: u64, limit: u64, room: usize) -> Verdict
+    ensures { λ r. ⌜ r ≡ importanceVerdict (now (plan .entry)) place limit room ⌝ }
+{
+    match figure_verdict(plan, limit, room) {
+        Verdict::Accepted => place_verdict(plan, place),
+        Verdict::Refused(c) => Verdict::Refused(c),
+    }
+}
+
+#[no_mangle]
+pub extern "C" fn check(plan: &[u8]) -> u64
+    ensures { λ r. ⌜ r ≡ checkOutcome (now (plan .entry)) ⌝ }
+{
+    plan::returned(plan::verdict_of(plan))
+}
+
+#[no_mangle]
+pub extern "C" fn figure(plan: &[u8], limit: u64, answer: &mut [u8]) -> u64
+    ensures { λ r. ⌜ r ≡ figureOutcome (now (plan .entry)) limit (now (answer .entry)) .returned ⌝ }
+    ensures { λ _. ⌜ now (answer .exit) ≡ figureOutcome (now (plan .entry)) limit (now (answer .entry)) .buffer ⌝ }
+{
+    let v = figure_verdict(plan, limit, answer.len());
+    if let Verdict::Refused(_) = v {
+        return plan::returned(v);
+    }
+    let f = factoring::work(plan::network_of(plan), limit);
+    put_answer(answer, f.low, f.high, f.steps, f.finished);
+    0
+}
+
+#[no_mangle]
+pub extern "C" fn importance(plan: &[u8], place: u64, limit: u64, answer: &mut [u8]) -> u64
+    ensures { λ r. ⌜ r ≡ importanceOutcome (now (plan .entry)) place limit (now (answer .entry)) .returned ⌝ }
+    ensures { λ _. ⌜ now (answer .exit) ≡ importanceOutcome (now (plan .entry)) place limit (now (answer .entry)) .buffer ⌝ }
+{
+    let v = importance_verdict(plan, place, limit, answer.len());
+    if let Verdict::Refused(_) = v {
+        return plan::returned(v);
+    }
+    let gain = factoring::importance(plan::network_of(plan), place as usize, limit);
+    put_answer(answer, gain.low, gain.high, gain.steps, gain.finished);
+    0
+}
+
+#[no_mangle]
+pub extern "C" fn difference(first: &[u8], second: &[u8], limit: u64, answer: &mut [u8]) -> u64
+    ensures { λ r. ⌜ r ≡ differenceOutcome (now (first .entry)) (now (second .entry)) limit (now (answer .entry)) .returned ⌝ }
+    ensures { λ _. ⌜ now (answer .exit) ≡ differenceOutcome (now (first .entry)) (now (second .entry)) limit (now (answer .entry)) .buffer ⌝ }
+{
+    let v = figure_verdict(first, limit, answer.len());
+    if let Verdict::Refused(_) = v {
+        return plan::returned(v);
+    }
+    let w = plan::verdict_of(second);
+    if let Verdict::Refused(_) = w {
+        return plan::returned(w) + 20;
+    }
+    let d = factoring::difference(plan::network_of(first), plan::network_of(second), limit);
+    put_answer(answer, bits_of(d.low), bits_of(d.high), d.steps, d.finished);
+    0
+}

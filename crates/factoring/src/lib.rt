@@ -1,0 +1,185 @@
+// The engine: the written rule on a network by value, and what is made of two figures.
+use network::Network;
+use reliability::Difference;
+use reliability::Figure;
+use reliability::Link;
+use reliability::Step;
+use rounding::Direction;
+ghost use mathlib.Core.Path.{_≡_};
+ghost use mathlib.Core.Bool.{_&&_};
+ghost use Prim.Native.Nat.{_+_, _-_, _^_, _≤_, _<_};
+ghost use lib.IntN.{pos, _-ℤ_};
+ghost use Rattle.rounding.specs.Rounding.{S, factor};
+ghost use Rattle.reliability.specs.Networks.{Valid, value};
+ghost use Rattle.reliability.specs.Exact.{Equal};
+ghost use Rattle.reliability.specs.Rule.{times, blend, figure};
+ghost use Rattle.reliability.specs.Comparisons.{lessened, minus, importance, difference};
+ghost use Rattle.network.specs.Places.{networkOf, indexOf, Used};
+ghost use Rattle.factoring.specs.Sides.{sides};
+
+fn both(a: bool, b: bool) -> bool
+    ensures { λ r. ⌜ r ≡ (a && b) ⌝ }
+{
+    a && b
+}
+
+// x - y, or 0 where y is the larger.
+fn excess(x: u32, y: u32) -> u32
+    ensures { λ r. ⌜ r ≡ x - y ⌝ }
+{
+    if y < x { x - y } else { 0 }
+}
+
+fn signed_difference(x: u32, y: u32) -> i32
+    requires { ⌜ (x ≤ S) × (y ≤ S) ⌝ }
+    ensures { λ r. ⌜ r ≡ pos x -ℤ pos y ⌝ }
+{
+    (x as i32) - (y as i32)
+}
+
+// The figure f multiplied by a factor for each side.
+fn times(low: u32, high: u32, f: Figure) -> Figure
+    requires { ⌜ (low ≤ S) × (high ≤ S) × (f .low ≤ S) × (f .high ≤ S) ⌝ }
+    ensures { λ r. ⌜ r ≡ times (sides low high) f ⌝ }
+{
+    let lower = rounding::product(Direction::Down, low, f.low);
+    let higher = rounding::product(Direction::Up, high, f.high);
+    Figure {
+        low: lower,
+        high: higher,
+        steps: f.steps,
+        finished: f.finished,
+    }
+}
+
+// The figure f multiplied by the factor of two links in series.
+fn times_factor(e: Link, k: Link, f: Figure) -> Figure
+    requires { ⌜ (e .low ≤ S) × (e .high ≤ S) × (k .low ≤ S) × (k .high ≤ S) × (f .low ≤ S) × (f .high ≤ S) ⌝ }
+    ensures { λ r. ⌜ r ≡ times (λ d. factor d (value d e) (value d k)) f ⌝ }
+{
+    let low = rounding::factor(Direction::Down, e.low, k.low);
+    let high = rounding::factor(Direction::Up, e.high, k.high);
+    times(low, high, f)
+}
+
+// The figure of a split on link e, from those of its two branches.
+fn blend(e: Link, s: Figure, t: Figure) -> Figure
+    requires { ⌜ (e .low ≤ S) × (e .high ≤ S) × (s .low ≤ S) × (s .high ≤ S) × (t .low ≤ S) × (t .high ≤ S) × (s .steps + t .steps + 1 < 2 ^ 32) ⌝ }
+    ensures { λ r. ⌜ r ≡ blend e s t ⌝ }
+{
+    let low = rounding::split(Direction::Down, e.low, s.low, t.low);
+    let high = rounding::split(Direction::Up, e.high, s.high, t.high);
+    let steps = s.steps + t.steps + 1;
+    let finished = both(s.finished, t.finished);
+    Figure {
+        low,
+        high,
+        steps,
+        finished,
+    }
+}
+
+// The figure of a network under a limit: what each step leaves is worked by the same rule, with a link less.
+pub fn work(net: Network, limit: u64) -> Figure
+    requires { ⌜ Valid (networkOf net) × (limit < 2 ^ 32) ⌝ }
+    ensures { λ r. ⌜ r ≡ figure (networkOf net) limit ⌝ }
+{
+    match net.step() {
+        Step::OneNode => Figure {
+            low: 1_000_000_000,
+            high: 1_000_000_000,
+            steps: 0,
+            finished: true,
+        },
+        Step::Disconnected => Figure {
+            low: 0,
+            high: 0,
+            steps: 0,
+            finished: true,
+        },
+        Step::Loop(i) => work(net.deleted(i), limit),
+        Step::Parallel(i, j) => work(net.parallel(i, j), limit),
+        Step::End(v, i) => {
+            let e = net.link(i);
+            times(e.low, e.high, work(net.end(v, i), limit))
+        }
+        Step::Series(v, i, j) => {
+            let e = net.link(i);
+            let k = net.link(j);
+            times_factor(e, k, work(net.series(v, i, j), limit))
+        }
+        Step::Split(i) => {
+            if limit == 0 {
+                return Figure {
+                    low: 0,
+                    high: 1_000_000_000,
+                    steps: 0,
+                    finished: false,
+                };
+            }
+            let e = net.link(i);
+            let sound = work(net.contracted(i), limit - 1);
+            let left = limit - 1 - (sound.steps as u64);
+            let broken = work(net.deleted(i), left);
+            blend(e, sound, broken)
+        }
+    }
+}
+
+// Sound minus broken, the low no lower than 0.
+fn lessened(s: Figure, b: Figure) -> Figure
+    requires { ⌜ (b .low ≤ s .high) × (s .steps + b .steps < 2 ^ 32) ⌝ }
+    ensures { λ r. ⌜ r ≡ lessened s b ⌝ }
+{
+    let low = excess(s.low, b.high);
+    let high = s.high - b.low;
+    let steps = s.steps + b.steps;
+    let finished = both(s.finished, b.finished);
+    Figure {
+        low,
+        high,
+        steps,
+        finished,
+    }
+}
+
+// The importance of the link at place i. A loop's sound and broken networks are both the network without it.
+pub fn importance(net: Network, i: usize, limit: u64) -> Figure
+    requires { ⌜ Valid (networkOf net) × Equal (networkOf net) × Used net i × (limit < 2 ^ 31) ⌝ }
+    ensures { λ r. ⌜ r ≡ importance (networkOf net) (indexOf net i) limit ⌝ }
+{
+    let e = net.link(i);
+    let broken = work(net.deleted(i), limit);
+    if e.a == e.b {
+        return lessened(broken, broken);
+    }
+    let sound = work(net.contracted(i), limit);
+    lessened(sound, broken)
+}
+
+// One figure minus another, signed.
+fn minus(f: Figure, g: Figure) -> Difference
+    requires { ⌜ (f .low ≤ S) × (f .high ≤ S) × (g .low ≤ S) × (g .high ≤ S) × (f .steps + g .steps < 2 ^ 32) ⌝ }
+    ensures { λ r. ⌜ r ≡ minus f g ⌝ }
+{
+    let low = signed_difference(f.low, g.high);
+    let high = signed_difference(f.high, g.low);
+    let steps = f.steps + g.steps;
+    let finished = both(f.finished, g.finished);
+    Difference {
+        low,
+        high,
+        steps,
+        finished,
+    }
+}
+
+// The difference of two networks: the first minus the second.
+pub fn difference(first: Network, second: Network, limit: u64) -> Difference
+    requires { ⌜ Valid (networkOf first) × Valid (networkOf second) × (limit < 2 ^ 31) ⌝ }
+    ensures { λ r. ⌜ r ≡ difference (networkOf first) (networkOf second) limit ⌝ }
+{
+    let f = work(first, limit);
+    let g = work(second, limit);
+    minus(f, g)
+}

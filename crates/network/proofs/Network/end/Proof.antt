@@ -1,0 +1,19 @@
+use Rattle.network.proofs.Picks.{allRows, deleted-links}
+use borrow.Author.Needs.{needs}
+use Rattle.network.proofs.Network.end.Statement.{statement}
+use Rattle.network.proofs.Network.end.Tie as tie
+
+without-node-requires : tie.Need-without-node-requires
+without-node-requires c κs = search needs
+
+without-requires : tie.Need-without-requires
+without-requires c κs = search needs
+
+returns : tie.Need-returns
+returns c =
+    let s = c .before .before in
+    let links = deleted-links (s .args .self) _ (s .args .i) (allRows (s .args .self)) (s .pre .1) (c .without .ensures) in
+    λ t. record { nodes = c .before .without-node .ensures t; links = links t }
+
+pub end-spec : {M : Type 1} → statement M
+end-spec = tie.close (tie.spec without-node-requires without-requires returns)

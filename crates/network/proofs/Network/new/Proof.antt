@@ -1,0 +1,27 @@
+use Prim.Native.Nat.{_-_}
+use mathlib.Core.Path.{ap, _∙_}
+use native.Mathlib.Omega.{arith}
+use Rattle.bits.proofs.Digits.{digits-zero}
+use Rattle.network.specs.Places.{pick, from, Built}
+use Rattle.network.proofs.Picks.{pick-first, pick-none, take-from, full-fits}
+use borrow.Author.Needs.{needs}
+use Rattle.network.proofs.Network.new.Statement.{statement}
+use Rattle.network.proofs.Network.new.Tie as tie
+
+full-requires : tie.Need-full-requires
+full-requires c κs = search needs
+
+cast-t4 : tie.Need-cast-t4
+cast-t4 c = record { fits = full-fits (c .full .result) (c .before .args .n) (search needs) (c .before .pre) (c .full .ensures) }
+
+returns : tie.Need-returns
+unfolding Built
+returns c =
+    let n = c .before .args .n in (
+      ap (λ bs. pick bs (from 0 64)) (c .full .ensures) ∙ pick-first n (64 - n) (from 0 64) ∙ take-from 0 n 64 (omega arith),
+      pick-none _,
+      digits-zero 64,
+    )
+
+pub new-spec : {M : Type 1} → statement M
+new-spec = tie.close (tie.spec full-requires cast-t4 returns)

@@ -1,0 +1,143 @@
+use Prim.Native.Nat.{_≤_}
+use mathlib.Core.Path.{_≡_}
+use Rattle.rounding.specs.Rounding.{S}
+use Rattle.rounding.specs.declared.Direction.{Direction}
+use Rattle.rounding.specs.declared.Direction.the-variants.{Down, Up}
+use Rattle.reliability.specs.Networks.{value}
+use Rattle.reliability.specs.Rule.{inSeries}
+use Rattle.network.proofs.Picks.{Sized, all-even, row, rowAt, rows-set, values-within, joined-links}
+use borrow.Author.Needs.{needs}
+use Rattle.network.proofs.Network.series.Statement.{statement}
+use Rattle.network.proofs.Network.series.Tie as tie
+
+sized : (c : tie.Start) → Sized (c .args .t1)
+sized c = search needs
+
+within : (c : tie.Start) (d : Direction) → (value d (rowAt (c .args .t1) (c .args .i)) ≤ S) × (value d (rowAt (c .args .t1) (c .args .j)) ≤ S)
+within c = values-within (c .args .t1) (sized c) (c .pre .0) (c .args .i) (c .args .j) (c .pre .2) (c .pre .3)
+
+mul-series : tie.Need-mul-series
+mul-series c = search needs
+
+element-copy-out-series : tie.Need-element-copy-out-series
+element-copy-out-series c = search needs
+
+mul-series-2 : tie.Need-mul-series-2
+mul-series-2 c = search needs
+
+element-copy-out-series-2 : tie.Need-element-copy-out-series-2
+element-copy-out-series-2 c = search needs
+
+series-requires : tie.Need-series-requires
+series-requires c κs = within (c .before .before) Down
+
+mul-series-3 : tie.Need-mul-series-3
+mul-series-3 c = search needs
+
+element-copy-out-series-3 : tie.Need-element-copy-out-series-3
+element-copy-out-series-3 c = search needs
+
+mul-series-4 : tie.Need-mul-series-4
+mul-series-4 c = search needs
+
+element-copy-out-series-4 : tie.Need-element-copy-out-series-4
+element-copy-out-series-4 c = search needs
+
+series-requires-2 : tie.Need-series-requires-2
+series-requires-2 c κs = within (c .before .before .before .before .before) Up
+
+cast-across : tie.Need-cast-across
+cast-across c = search needs
+
+element-copy-out-across : tie.Need-element-copy-out-across
+element-copy-out-across c = search needs
+
+element-copy-out-across-2 : tie.Need-element-copy-out-across-2
+element-copy-out-across-2 c = search needs
+
+across-requires : tie.Need-across-requires
+across-requires c κs = search needs
+
+cast-across-2 : tie.Need-cast-across-2
+cast-across-2 c = search needs
+
+element-copy-out-across-3 : tie.Need-element-copy-out-across-3
+element-copy-out-across-3 c = search needs
+
+element-copy-out-across-4 : tie.Need-element-copy-out-across-4
+element-copy-out-across-4 c = search needs
+
+across-requires-2 : tie.Need-across-requires-2
+across-requires-2 c κs = search needs
+
+element-write-self : tie.Need-element-write-self
+element-write-self c = search needs
+
+element-write-self-2 : tie.Need-element-write-self-2
+element-write-self-2 c = search needs
+
+mul-self : tie.Need-mul-self
+mul-self c = search needs
+
+element-write-self-3 : tie.Need-element-write-self-3
+element-write-self-3 c = search needs
+
+mul-self-2 : tie.Need-mul-self-2
+mul-self-2 c = search needs
+
+element-write-self-4 : tie.Need-element-write-self-4
+element-write-self-4 c = search needs
+
+without-node-requires : tie.Need-without-node-requires
+without-node-requires c κs = search needs
+
+without-requires : tie.Need-without-requires
+without-requires c κs = search needs
+
+returns : tie.Need-returns
+returns c =
+    let b = c .before .before .across2 in
+    let a = c .before .before .before .before .before .across in
+    let high = c .before .before .before .before .before .before .before .before .series2 in
+    let low = c .before .before .before .before .before .before .before .before .before .before .before .series in
+    let s = c .before .before .before .before .before .before .before .before .before .before .before .before .before .before in
+    let n = s .args .t1 in
+    let i = s .args .i in
+    let j = s .args .j in
+    let e = row (a .result) (b .result) (low .result) (high .result) in
+    let made : e ≡ inSeries (s .args .v) (rowAt n i) (rowAt n j) = λ t. row (a .ensures t) (b .ensures t) (low .ensures t) (high .ensures t) in
+    let written = rows-set (all-even n (sized s)) i e in
+    let links = joined-links n _ j _ (s .pre .3) (c .without .ensures) (sized s) i e (inSeries (s .args .v)) (s .pre .2) written made in
+    λ t. record { nodes = c .before .without-node .ensures t; links = links t }
+
+pub series-spec : {M : Type 1} → statement M
+series-spec =
+    tie.close
+    (tie.spec
+    mul-series
+    element-copy-out-series
+    mul-series-2
+    element-copy-out-series-2
+    series-requires
+    mul-series-3
+    element-copy-out-series-3
+    mul-series-4
+    element-copy-out-series-4
+    series-requires-2
+    cast-across
+    element-copy-out-across
+    element-copy-out-across-2
+    across-requires
+    cast-across-2
+    element-copy-out-across-3
+    element-copy-out-across-4
+    across-requires-2
+    element-write-self
+    element-write-self-2
+    mul-self
+    element-write-self-3
+    mul-self-2
+    element-write-self-4
+    without-node-requires
+    without-requires
+    returns)

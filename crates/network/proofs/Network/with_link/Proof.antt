@@ -1,0 +1,53 @@
+use mathlib.Core.Path.{refl}
+use lib.ListN.{set}
+use Rattle.network.specs.declared.Network.{Network}
+use Rattle.network.proofs.Picks.{Sized, all-even, rows-set, built-more, built-appended}
+use borrow.Author.Needs.{needs}
+use Rattle.network.proofs.Network.with_link.Statement.{statement}
+use Rattle.network.proofs.Network.with_link.Tie as tie
+
+sized : (c : tie.Start) → Sized (c .args .t1)
+sized c = search needs
+
+element-write-self : tie.Need-element-write-self
+element-write-self c = search needs
+
+element-write-self-2 : tie.Need-element-write-self-2
+element-write-self-2 c = search needs
+
+mul-self : tie.Need-mul-self
+mul-self c = search needs
+
+element-write-self-3 : tie.Need-element-write-self-3
+element-write-self-3 c = search needs
+
+mul-self-2 : tie.Need-mul-self-2
+mul-self-2 c = search needs
+
+element-write-self-4 : tie.Need-element-write-self-4
+element-write-self-4 c = search needs
+
+with-requires : tie.Need-with-requires
+with-requires c κs = search needs
+
+returns : tie.Need-returns
+returns c =
+    let s = c .before in
+    let n = s .args .t1 in
+    let k = s .args .k in
+    let l = s .args .l in
+    let r : Network = record { alive = c .with .result; nodes = n .nodes; a = set (n .a) k (l .a); b = set (n .b) k (l .b); low = set (n .low) k (l .low); high = set (n .high) k (l .high) } in
+    (refl, built-appended n r k (s .pre .0) (s .pre .1) (c .with .ensures) (sized s) l (rows-set (all-even n (sized s)) k l), built-more n r k (s .pre .0) (s .pre .1) (c .with .ensures))
+
+pub with-link-spec : {M : Type 1} → statement M
+with-link-spec =
+    tie.close
+    (tie.spec
+    element-write-self
+    element-write-self-2
+    mul-self
+    element-write-self-3
+    mul-self-2
+    element-write-self-4
+    with-requires
+    returns)

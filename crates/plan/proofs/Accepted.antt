@@ -1,0 +1,51 @@
+-- The network of an accepted plan is valid, with its low and high values equal.
+use Prim.Native.Nat.{ℕ, zero, suc, _+_, _≤_, _<_}
+use mathlib.Core.Path.{_≡_, refl, sym, ap, _∙_}
+use mathlib.Core.List.{List, [], _∷_, List·Memᴰ, List·Memᴰ·head, List·Memᴰ·tail, List·Memᴰ·not-nil, List·Memᴰ·cases-cons}
+use mathlib.Core.Logic.{⊎-elim}
+use native.Mathlib.Omega.{arith}
+use native.Mathlib.Decide.{ℕ-discrete}
+use lib.ListN.{length}
+use Rattle.reliability.specs.Networks.{Network, Ascending, Valid}
+use Rattle.reliability.specs.Exact.{Equal}
+use Rattle.plan.specs.declared.Verdict.the-variants.{Accepted}
+use Rattle.plan.specs.Plans.{sizeN, sizeM, verdict, linksIn, planOf}
+use Rattle.network.specs.Places.{from}
+use Rattle.plan.proofs.Links.{length-links, one-value, links-proper}
+
+pub length-from : (i k : ℕ) → length (from i k) ≡ k
+unfolding from
+length-from i zero = refl
+length-from i (suc k) = ap suc (length-from (suc i) k)
+
+above : (i k u : ℕ) → List·Memᴰ u (from i k) → i ≤ u
+unfolding from
+above i zero u m = absurd (List·Memᴰ·not-nil m)
+above i (suc k) u m = ⊎-elim (λ (e : u ≡ i). omega arith) (λ n. let h = above (suc i) k u n in omega arith) (List·Memᴰ·cases-cons m)
+
+ascending : (i k : ℕ) → Ascending (from i k)
+unfolding from Ascending
+ascending i zero = tt
+ascending i (suc k) = (λ u m. above (suc i) k u m, ascending (suc i) k)
+
+within : (i k v : ℕ) → i ≤ v → v < i + k → List·Memᴰ v (from i k)
+unfolding from
+within i zero v h l = absurd (omega arith)
+within i (suc k) v h l = go (ℕ-discrete v i) (within (suc i) k v)
+  where
+    go : Dec (v ≡ i) → (suc i ≤ v → v < suc i + k → List·Memᴰ v (from (suc i) k)) → List·Memᴰ v (i ∷ from (suc i) k)
+    go (yes e) later = List·Memᴰ·head e
+    go (no n) later = List·Memᴰ·tail (later (omega arith) (omega arith))
+
+module _ (b : List ℕ) where
+  pub plan-valid : verdict b ≡ Accepted → Valid (planOf b)
+  plan-valid h = record { ascending = ascending 0 (sizeN b); proper = links-proper b (from 0 (sizeN b)) (λ v l. within 0 (sizeN b) v (omega arith) (omega arith)) h }
+
+  pub plan-equal : Equal (planOf b)
+  plan-equal e m = one-value b e m
+
+  pub plan-links : length (planOf b .links) ≡ sizeM b
+  plan-links = length-links b 0 (sizeM b)
+
+  pub plan-nodes : length (planOf b .nodes) ≡ sizeN b
+  plan-nodes = length-from 0 (sizeN b)

@@ -1,0 +1,93 @@
+use Prim.Native.Nat.{ℕ, _+_, _-_, _≤_}
+use mathlib.Core.Path.{_≡_, sym, ap, ap₂, _∙_, subst}
+use mathlib.Core.List.{List, [], _∷_, _++_}
+use Rattle.reliability.specs.declared.Link.{Link}
+use native.Mathlib.Omega.{arith}
+use borrow.Author.Needs.{needs}
+use Rattle.network.specs.Places.{from, nodesOf, linksOf, Built}
+use Rattle.plan.specs.Plans.{sizeN, sizeM, linksIn, WellFormed}
+use Rattle.plan.proofs.Verdicts.{accepted-means}
+use Rattle.plan.proofs.Links.{links-more}
+use Rattle.plan.proofs.network_of.Statement.{statement}
+use Rattle.plan.proofs.network_of.Tie as tie
+
+abbrev Inv-loop : tie.InvT-loop
+Inv-loop plan m net₀ i₀ net i =
+    (m ≡ sizeM plan) × (i ≤ m) × Built net i × (nodesOf net ≡ from 0 (sizeN plan)) × (linksOf net ≡ linksIn plan 0 i)
+
+abbrev μ-loop : tie.MeasureT-loop
+μ-loop plan m net₀ i₀ net i = m - i
+
+well : (c : tie.Start Inv-loop μ-loop) → WellFormed (c .args .plan .now)
+well c = accepted-means (c .args .plan .now) .0 (c .pre)
+
+sizes-of-requires : tie.Need-sizes-of-requires Inv-loop μ-loop
+sizes-of-requires c κs = let w = well (c .before) in omega (arith, w .whole)
+
+cast-m : tie.Need-cast-m Inv-loop μ-loop
+cast-m c = search needs
+
+cast-new : tie.Need-cast-new Inv-loop μ-loop
+cast-new c = search needs
+
+new-requires : tie.Need-new-requires Inv-loop μ-loop
+new-requires c κs = let w = well (c .before .before .before .before) in let e = c .before .before .sizes-of .ensures .0 in omega (arith, w .nodes)
+
+loop-holds : tie.Need-loop-holds Inv-loop μ-loop
+unfolding linksIn
+loop-holds c =
+    let e = c .before .before .before .sizes-of .ensures in
+    let n = c .new .ensures in
+    (e .1, omega arith, n .2, n .0 ∙ ap (from 0) (e .0), n .1)
+
+link-at-requires : tie.Need-link-at-requires Inv-loop μ-loop
+link-at-requires c κs = let l = c .before .loop .inv in (c .before .before .before .before .before .before .before .pre, omega (arith, l .0))
+
+with-link-requires : tie.Need-with-link-requires Inv-loop μ-loop
+with-link-requires c κs =
+    let l = c .before .before .loop .inv in
+    let w = well (c .before .before .before .before .before .before .before .before) in
+    (l .2, omega (arith, l .0, w .links))
+
+add-i : tie.Need-add-i Inv-loop μ-loop
+add-i c = search needs
+
+loop-less : tie.Need-loop-less Inv-loop μ-loop
+loop-less c = omega arith
+
+loop-again : tie.Need-loop-again Inv-loop μ-loop
+loop-again c =
+    let l = c .before .before .before .loop .inv in
+    let e = c .with-link .ensures in
+    let b = c .before .before .before .before .before .before .before .before .before .args .plan .now in (
+      l .0,
+      omega arith,
+      e .2,
+      e .0 ∙ l .3,
+      e .1 ∙ ap₂ (λ (xs : List Link) (x : Link). xs ++ (x ∷ [])) (l .4) (c .before .link-at .ensures) ∙ sym (links-more b (c .before .before .before .loop .i)),
+    )
+
+returns : tie.Need-returns Inv-loop μ-loop
+returns c =
+    let l = c .before .loop .inv in
+    let b = c .before .before .before .before .before .before .before .args .plan .now in
+    let all : c .before .loop .i ≡ sizeM b = omega (arith, l .0) in
+    ((λ j. record { nodes = l .3 j; links = (l .4 ∙ ap (linksIn b 0) all) j }), subst (Built (c .before .loop .net)) all (l .2))
+
+pub network-of-spec : {M : Type 1} → statement M
+network-of-spec =
+    tie.close
+    (tie.spec
+    Inv-loop
+    μ-loop
+    sizes-of-requires
+    cast-m
+    cast-new
+    new-requires
+    loop-holds
+    link-at-requires
+    with-link-requires
+    add-i
+    loop-less
+    loop-again
+    returns)

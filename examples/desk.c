@@ -1,0 +1,70 @@
+/* Asks a question of each of the planning desk's four calls and prints the answers. */
+
+#include "plandesk.h"
+
+#include <inttypes.h>
+#include <stdio.h>
+
+/* Two nodes, and two links between them of 0.9 and 0.8. */
+static const uint8_t two_links[] = {
+    2, 0, 2, 0,
+    0, 1, 0, 1,
+    0x00, 0xe9, 0xa4, 0x35, 0x00, 0x08, 0xaf, 0x2f,
+};
+
+/* The same without the second link. */
+static const uint8_t one_link[] = {
+    2, 0, 1, 0,
+    0, 1,
+    0x00, 0xe9, 0xa4, 0x35,
+};
+
+/* Four nodes, each two joined by a link of 0.5: it needs one split. */
+static const uint8_t four_nodes[] = {
+    4, 0, 6, 0,
+    0, 1, 0, 2, 0, 3, 1, 2, 1, 3, 2, 3,
+    0x00, 0x65, 0xcd, 0x1d, 0x00, 0x65, 0xcd, 0x1d, 0x00, 0x65, 0xcd, 0x1d,
+    0x00, 0x65, 0xcd, 0x1d, 0x00, 0x65, 0xcd, 0x1d, 0x00, 0x65, 0xcd, 0x1d,
+};
+
+static uint32_t number(const uint8_t *from)
+{
+    return from[0] | (uint32_t)from[1] << 8 | (uint32_t)from[2] << 16 | (uint32_t)from[3] << 24;
+}
+
+static void print(const char *question, uint64_t refusal, const uint8_t *answer)
+{
+    if (refusal != 0) {
+        printf("%s: refused %" PRIu64 "\n", question, refusal);
+        return;
+    }
+    printf("%s: low %" PRId32 " high %" PRId32 " steps %" PRIu32 " finished %" PRIu32 "\n", question,
+           (int32_t)number(answer), (int32_t)number(answer + 4), number(answer + 8), number(answer + 12));
+}
+
+int main(void)
+{
+    uint8_t answer[PLANDESK_ANSWER] = {0};
+    uint64_t r;
+
+    printf("check, two links: %" PRIu64 "\n", check(two_links, sizeof two_links));
+    printf("check, a byte short: %" PRIu64 "\n", check(two_links, sizeof two_links - 1));
+
+    r = figure(two_links, sizeof two_links, 20000, answer, sizeof answer);
+    print("figure, two links", r, answer);
+    r = figure(four_nodes, sizeof four_nodes, 20000, answer, sizeof answer);
+    print("figure, four nodes", r, answer);
+    r = figure(four_nodes, sizeof four_nodes, 0, answer, sizeof answer);
+    print("figure, four nodes, no step", r, answer);
+    r = figure(four_nodes, sizeof four_nodes, PLANDESK_MOST_STEPS + 1, answer, sizeof answer);
+    print("figure, a step too many", r, answer);
+
+    r = importance(two_links, sizeof two_links, 0, 20000, answer, sizeof answer);
+    print("importance of link 0", r, answer);
+    r = importance(two_links, sizeof two_links, 2, 20000, answer, sizeof answer);
+    print("importance of link 2", r, answer);
+
+    r = difference(one_link, sizeof one_link, two_links, sizeof two_links, 20000, answer, sizeof answer);
+    print("one link less two links", r, answer);
+    return 0;
+}

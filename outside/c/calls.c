@@ -1,0 +1,50 @@
+/* Makes calls for a test. Each call is read from standard input: six 64-bit numbers (which call, limit, place, room, length of
+   plan A, length of plan B), the contents of the answer buffer, both plans. The number returned and the contents of the
+   buffer are written to standard output. Every plan and every buffer has a block of memory of its own, of just its size,
+   so that a memory checker sees a byte read or written outside. */
+
+#include "plandesk.h"
+
+#include <stdio.h>
+#include <stdlib.h>
+
+static uint8_t *block(size_t size)
+{
+    uint8_t *bytes = malloc(size);
+    if ((bytes == NULL && size != 0) || fread(bytes, 1, size, stdin) != size)
+        exit(2);
+    return bytes;
+}
+
+static uint64_t made(const uint64_t *asked, const uint8_t *a, const uint8_t *b, uint8_t *answer)
+{
+    uint64_t limit = asked[1], place = asked[2];
+    size_t room = asked[3], a_len = asked[4], b_len = asked[5];
+    switch (asked[0]) {
+    case 0:
+        return check(a, a_len);
+    case 1:
+        return figure(a, a_len, limit, answer, room);
+    case 2:
+        return importance(a, a_len, place, limit, answer, room);
+    default:
+        return difference(a, a_len, b, b_len, limit, answer, room);
+    }
+}
+
+int main(void)
+{
+    uint64_t asked[6];
+    while (fread(asked, sizeof asked, 1, stdin) == 1) {
+        uint8_t *answer = block(asked[3]);
+        uint8_t *a = block(asked[4]);
+        uint8_t *b = block(asked[5]);
+        uint64_t returned = made(asked, a, b, answer);
+        if (fwrite(&returned, sizeof returned, 1, stdout) != 1 || fwrite(answer, 1, asked[3], stdout) != asked[3])
+            return 2;
+        free(answer);
+        free(a);
+        free(b);
+    }
+    return fflush(stdout) == 0 ? 0 : 2;
+}

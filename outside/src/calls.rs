@@ -1,0 +1,149 @@
+//! The planning desk's four calls, and what each should answer.
+
+use crate::arithmetic::S;
+use crate::plans::{Link, Plan, LENGTH};
+use crate::rule::{self, Answer, Network};
+
+pub const MOST_STEPS: u64 = 1_000_000;
+
+/// The bytes of an answer.
+pub const ANSWER: usize = 16;
+
+#[derive(Clone, Copy, Debug)]
+pub enum Call<'a> {
+    Check {
+        plan: &'a [u8],
+    },
+    Figure {
+        plan: &'a [u8],
+        limit: u64,
+    },
+    Importance {
+        plan: &'a [u8],
+        place: u64,
+        limit: u64,
+    },
+    Difference {
+        a: &'a [u8],
+        b: &'a [u8],
+        limit: u64,
+    },
+}
+
+/// Limits around the splits that a network needs, and far from them, in ascending order.
+pub fn limits_around(needed: u64) -> Vec<u64> {
+    let around = needed.saturating_sub(1)..=needed + 1;
+    let mut limits: Vec<u64> = around.chain([0, needed / 2, MOST_STEPS]).collect();
+    limits.sort();
+    limits
+}
+
+/// What a call answers, which for a check is nothing, or the number that it is refused with.
+pub type Outcome = Result<Option<Answer>, u64>;
+
+fn number(bytes: &[u8]) -> u32 {
+    bytes.iter().rev().fold(0, |x, b| x * 256 + u32::from(*b))
+}
+
+/// The plan that the bytes mean, or rows 1 to 6 of the table.
+pub fn read(bytes: &[u8]) -> Result<Plan, u64> {
+    if bytes.len() < 4 {
+        return Err(1);
+    }
+    let (nodes, count) = (number(&bytes[..2]), number(&bytes[2..4]) as usize);
+    if nodes == 0 || nodes > 32 {
+        return Err(2);
+    }
+    if count > 64 {
+        return Err(3);
+    }
+    if bytes.len() != 4 + 6 * count {
+        return Err(4);
+    }
+    let (ends, values) = bytes[4..].split_at(2 * count);
+    let mut plan = Plan {
+        nodes: nodes as u16,
+        links: Vec::new(),
+    };
+    for (i, (ends, value)) in ends.chunks(2).zip(values.chunks(4)).enumerate() {
+        let value = number(value);
+        if ends.iter().any(|v| u32::from(*v) >= nodes) {
+            return Err(5 + 256 * i as u64);
+        }
+        if (S < value && value < LENGTH) || value > LENGTH + 511 {
+            return Err(6 + 256 * i as u64);
+        }
+        plan.links.push(Link {
+            ends: [ends[0], ends[1]],
+            value,
+        });
+    }
+    Ok(plan)
+}
+
+/// Rows 7 and 9, which come first.
+fn asked(limit: u64, room: usize) -> Result<(), u64> {
+    if limit > MOST_STEPS {
+        return Err(7);
+    }
+    if room < ANSWER {
+        return Err(9);
+    }
+    Ok(())
+}
+
+impl Call<'_> {
+    /// What the call should answer into a buffer of `room` bytes.
+    pub fn outcome(&self, room: usize) -> Outcome {
+        match *self {
+            Call::Check { plan } => read(plan).map(|_| None),
+            Call::Figure { plan, limit } => {
+                asked(limit, room)?;
+                let network = Network::from(&read(plan)?);
+                Ok(Some(rule::figure(network, limit).into()))
+            }
+            Call::Importance { plan, place, limit } => {
+                asked(limit, room)?;
+                let plan = read(plan)?;
+                if place >= plan.links.len() as u64 {
+                    return Err(8);
+                }
+                let network = Network::from(&plan);
+                Ok(Some(rule::importance(&network, place as usize, limit)))
+            }
+            Call::Difference { a, b, limit } => {
+                asked(limit, room)?;
+                let a = Network::from(&read(a)?);
+                let b = Network::from(&read(b).map_err(|r| r + 20)?);
+                Ok(Some(rule::difference(a, b, limit)))
+            }
+        }
+    }
+}
+
+/// The 16 bytes of an answer. A negative number is its two's complement.
+pub fn answer_bytes(answer: &Answer) -> Vec<u8> {
+    let finished = i64::from(answer.finished);
+    let numbers = [answer.low, answer.high, answer.steps as i64, finished];
+    numbers
+        .iter()
+        .flat_map(|x| x.rem_euclid(1 << 32).to_le_bytes().into_iter().take(4))
+        .collect()
+}
+
+/// The number that a call returns with that outcome, and what it leaves of the buffer.
+pub fn left(outcome: &Outcome, buffer: &[u8]) -> (u64, Vec<u8>) {
+    match outcome {
+        Err(refusal) => (*refusal, buffer.to_vec()),
+        Ok(None) => (0, buffer.to_vec()),
+        Ok(Some(answer)) => (0, [&answer_bytes(answer), &buffer[ANSWER..]].concat()),
+    }
+}
+
+/// The outcome of a call by the rule, to which the library is held where it is linked.
+pub fn held(call: &Call, room: usize) -> Outcome {
+    let outcome = call.outcome(room);
+    #[cfg(desk)]
+    crate::desk::hold(call, room, &outcome);
+    outcome
+}

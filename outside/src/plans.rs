@@ -1,0 +1,173 @@
+//! A plan as data, and its bytes; random plans; damage.
+
+use crate::arithmetic::{ratings, S};
+use crate::random::Random;
+use std::sync::LazyLock;
+
+/// A value from here on is a length.
+pub const LENGTH: u32 = 1 << 31;
+
+static RATINGS: LazyLock<Vec<u32>> = LazyLock::new(ratings);
+
+/// A link as the file has it.
+#[derive(Clone, Copy, Debug, PartialEq, Eq)]
+pub struct Link {
+    pub ends: [u8; 2],
+    pub value: u32,
+}
+
+impl Link {
+    /// The chance in units that the value stands for.
+    pub fn units(&self) -> u32 {
+        match self.value.checked_sub(LENGTH) {
+            Some(k) => RATINGS[k as usize],
+            None => self.value,
+        }
+    }
+}
+
+/// Any sizes, ends and values, right or wrong.
+#[derive(Clone, Debug, PartialEq, Eq)]
+pub struct Plan {
+    pub nodes: u16,
+    pub links: Vec<Link>,
+}
+
+impl Plan {
+    pub fn new(nodes: u16, links: &[(u8, u8, u32)]) -> Plan {
+        let link = |&(a, b, value): &(u8, u8, u32)| Link {
+            ends: [a, b],
+            value,
+        };
+        Plan {
+            nodes,
+            links: links.iter().map(link).collect(),
+        }
+    }
+
+    /// Links of one value between the given ends.
+    pub fn alike(nodes: u16, value: u32, ends: &[[u8; 2]]) -> Plan {
+        let link = |&ends: &[u8; 2]| Link { ends, value };
+        Plan {
+            nodes,
+            links: ends.iter().map(link).collect(),
+        }
+    }
+
+    pub fn bytes(&self) -> Vec<u8> {
+        let count = u16::try_from(self.links.len()).expect("m is 16 bits");
+        let mut bytes = Vec::from(self.nodes.to_le_bytes());
+        bytes.extend(count.to_le_bytes());
+        bytes.extend(self.links.iter().flat_map(|l| l.ends));
+        bytes.extend(self.links.iter().flat_map(|l| l.value.to_le_bytes()));
+        bytes
+    }
+
+    /// The plan of the complete graph.
+    pub fn complete(nodes: u8, value: u32) -> Plan {
+        let ends: Vec<[u8; 2]> = every_pair(nodes).collect();
+        Plan::alike(nodes.into(), value, &ends)
+    }
+
+    /// An accepted plan, of few or many nodes.
+    pub fn random(random: &mut Random, most_nodes: u8, most_links: usize) -> Plan {
+        let mut count = || random.below(most_links + 1);
+        let count = count().max(count());
+        let most = match random.below(2) {
+            0 => 1 + count * 2 / 3,
+            _ => 2 + count,
+        };
+        let nodes = 1 + random.below(most.min(most_nodes.into()));
+        Plan::random_of(random, nodes as u8, count)
+    }
+
+    /// An accepted plan of these sizes. Loops, parallels, values of 0 and S, and lengths are common; a third of the plans
+    /// have no loop, and no parallels where there are enough pairs of nodes; a third have a spanning tree.
+    pub fn random_of(random: &mut Random, nodes: u8, count: usize) -> Plan {
+        let ends = match random.below(3) {
+            0 => pairs(random, nodes, count),
+            tree => ends(random, nodes, count, tree == 1),
+        };
+        let link = |ends: [u8; 2]| Link {
+            ends: if random.below(2) == 0 {
+                ends
+            } else {
+                [ends[1], ends[0]]
+            },
+            value: random_value(random),
+        };
+        let mut links: Vec<Link> = ends.into_iter().map(link).collect();
+        random.shuffle(&mut links);
+        Plan {
+            nodes: nodes.into(),
+            links,
+        }
+    }
+}
+
+/// Pairs of nodes, each once before any comes again.
+fn pairs(random: &mut Random, nodes: u8, count: usize) -> Vec<[u8; 2]> {
+    let mut all: Vec<[u8; 2]> = every_pair(nodes).collect();
+    if all.is_empty() {
+        all.push([0, 0]);
+    }
+    random.shuffle(&mut all);
+    all.into_iter().cycle().take(count).collect()
+}
+
+/// Any ends; the first of them a spanning tree if asked.
+fn ends(random: &mut Random, nodes: u8, count: usize, tree: bool) -> Vec<[u8; 2]> {
+    let mut all: Vec<[u8; 2]> = Vec::with_capacity(count);
+    for i in 0..count {
+        let mut any = || random.below(nodes.into()) as u8;
+        let ends = [any(), any()];
+        all.push(match random.below(10) {
+            _ if tree && i + 1 < nodes.into() => [random.below(i + 1) as u8, i as u8 + 1],
+            0 if i > 0 => all[random.below(i)],
+            1 => [ends[0]; 2],
+            _ => ends,
+        });
+    }
+    all
+}
+
+fn every_pair(nodes: u8) -> impl Iterator<Item = [u8; 2]> {
+    (0..nodes).flat_map(|b| (0..b).map(move |a| [a, b]))
+}
+
+fn random_value(random: &mut Random) -> u32 {
+    let most = u64::from(S);
+    match random.below(12) {
+        0 => 0,
+        1 => S,
+        2 => S / 2,
+        3 | 4 => LENGTH + random.below(512) as u32,
+        5 => random.of_any_size(most) as u32,
+        6 | 7 => S - random.of_any_size(most) as u32,
+        _ => random.up_to(most) as u32,
+    }
+}
+
+/// The bytes of a file damaged in many ways: each byte flipped in one bit, in all, or replaced; cut short at each length;
+/// run long.
+pub fn damaged(random: &mut Random, bytes: &[u8]) -> Vec<Vec<u8>> {
+    let mut all: Vec<Vec<u8>> = (0..bytes.len()).map(|cut| bytes[..cut].to_vec()).collect();
+    for i in 0..bytes.len() {
+        for flip in [
+            1 << random.below(8),
+            1 << random.below(8),
+            0xff,
+            1 + random.below(255) as u8,
+        ] {
+            let mut copy = bytes.to_vec();
+            copy[i] ^= flip;
+            all.push(copy);
+        }
+    }
+    for extra in 1..=12 {
+        let mut copy = bytes.to_vec();
+        copy.extend((0..extra).map(|_| random.next() as u8));
+        all.push(copy);
+    }
+    all
+}

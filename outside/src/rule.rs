@@ -1,0 +1,277 @@
+//! The written rule, straightforwardly: a network is a list of nodes and a list of links, handed on by value.
+
+use crate::arithmetic::{factor, parallel, product, series, split, Side, S, SIDES};
+use crate::plans::Plan;
+
+#[derive(Clone, Copy, Debug)]
+struct Link {
+    ends: [u8; 2],
+    low: u32,
+    high: u32,
+}
+
+impl Link {
+    fn value(&self, side: Side) -> u32 {
+        match side {
+            Side::Low => self.low,
+            Side::High => self.high,
+        }
+    }
+
+    fn is_loop(&self) -> bool {
+        self.ends[0] == self.ends[1]
+    }
+
+    fn has(&self, node: u8) -> bool {
+        self.ends.contains(&node)
+    }
+
+    fn runs_beside(&self, other: &Link) -> bool {
+        let [a, b] = self.ends;
+        other.ends == [a, b] || other.ends == [b, a]
+    }
+
+    /// The end that is not `node`.
+    fn across(&self, node: u8) -> u8 {
+        if self.ends[0] == node {
+            self.ends[1]
+        } else {
+            self.ends[0]
+        }
+    }
+}
+
+/// Low and high of an operation on two links' values.
+fn both(operation: fn(Side, u32, u32) -> u32, p: &Link, q: &Link) -> [u32; 2] {
+    SIDES.map(|side| operation(side, p.value(side), q.value(side)))
+}
+
+/// The nodes stand in ascending order.
+#[derive(Clone, Debug)]
+pub struct Network {
+    nodes: Vec<u8>,
+    links: Vec<Link>,
+}
+
+/// What is left to be done after the first step that fits.
+enum Step {
+    Known(u32),
+    Rest(Network, [u32; 2]),
+    Split(Link, Network, Network),
+}
+
+#[derive(Clone, Copy, Debug, PartialEq, Eq)]
+pub struct Figure {
+    pub low: u32,
+    pub high: u32,
+    pub steps: u64,
+    pub finished: bool,
+}
+
+/// Of a figure, an importance or a difference.
+#[derive(Clone, Copy, Debug, PartialEq, Eq)]
+pub struct Answer {
+    pub low: i64,
+    pub high: i64,
+    pub steps: u64,
+    pub finished: bool,
+}
+
+impl From<&Plan> for Network {
+    fn from(plan: &Plan) -> Network {
+        let link = |l: &crate::plans::Link| Link {
+            ends: l.ends,
+            low: l.units(),
+            high: l.units(),
+        };
+        Network {
+            nodes: (0..plan.nodes as u8).collect(),
+            links: plan.links.iter().map(link).collect(),
+        }
+    }
+}
+
+impl Network {
+    fn connected(&self) -> bool {
+        let mut reached = vec![self.nodes[0]];
+        loop {
+            let before = reached.len();
+            for link in &self.links {
+                match link.ends.map(|v| reached.contains(&v)) {
+                    [true, false] => reached.push(link.ends[1]),
+                    [false, true] => reached.push(link.ends[0]),
+                    _ => (),
+                }
+            }
+            if reached.len() == before {
+                return before == self.nodes.len();
+            }
+        }
+    }
+
+    fn first_pair(&self) -> Option<(usize, usize)> {
+        (0..self.links.len()).find_map(|i| {
+            let partner = |j: &usize| self.links[*j].runs_beside(&self.links[i]);
+            (i + 1..self.links.len()).find(partner).map(|j| (i, j))
+        })
+    }
+
+    fn places_at(&self, node: u8) -> Vec<usize> {
+        (0..self.links.len())
+            .filter(|i| self.links[*i].has(node))
+            .collect()
+    }
+
+    /// The lowest node with that many links, and their places.
+    fn lowest_with(&self, count: usize) -> Option<(u8, Vec<usize>)> {
+        let found = self.nodes.iter().map(|v| (*v, self.places_at(*v)));
+        found.into_iter().find(|(_, places)| places.len() == count)
+    }
+
+    fn without_node(mut self, node: u8) -> Network {
+        self.nodes.retain(|v| *v != node);
+        self
+    }
+
+    fn without_link(mut self, place: usize) -> Network {
+        self.links.remove(place);
+        self
+    }
+
+    /// The larger end is renamed to the smaller.
+    fn contracted(mut self, ends: [u8; 2]) -> Network {
+        let (keep, gone) = (ends[0].min(ends[1]), ends[0].max(ends[1]));
+        for link in &mut self.links {
+            link.ends = link.ends.map(|v| if v == gone { keep } else { v });
+        }
+        self.without_node(gone)
+    }
+
+    /// The link at `place` takes the place of both.
+    fn joined(mut self, place: usize, other: usize, ends: [u8; 2], values: [u32; 2]) -> Network {
+        let [low, high] = values;
+        self.links[place] = Link { ends, low, high };
+        self.without_link(other)
+    }
+
+    fn step(mut self) -> Step {
+        self.links.retain(|l| !l.is_loop());
+        if self.nodes.len() == 1 {
+            return Step::Known(S);
+        }
+        if !self.connected() {
+            return Step::Known(0);
+        }
+        if let Some((i, j)) = self.first_pair() {
+            let (p, q) = (self.links[i], self.links[j]);
+            let rest = self.joined(i, j, p.ends, both(parallel, &p, &q));
+            return Step::Rest(rest, [S, S]);
+        }
+        if let Some((v, at)) = self.lowest_with(1) {
+            let p = self.links[at[0]];
+            let rest = self.without_link(at[0]).without_node(v);
+            return Step::Rest(rest, [p.low, p.high]);
+        }
+        if let Some((v, at)) = self.lowest_with(2) {
+            let (p, q) = (self.links[at[0]], self.links[at[1]]);
+            let ends = [p.across(v), q.across(v)];
+            let rest = self.joined(at[0], at[1], ends, both(series, &p, &q));
+            return Step::Rest(rest.without_node(v), both(factor, &p, &q));
+        }
+        let p = self.links[0];
+        let broken = self.without_link(0);
+        Step::Split(p, broken.clone().contracted(p.ends), broken)
+    }
+
+    /// The network with the link at `place` sound, and with it broken.
+    fn branches(&self, place: usize) -> [Network; 2] {
+        let link = self.links[place];
+        let broken = self.clone().without_link(place);
+        let sound = if link.is_loop() {
+            broken.clone()
+        } else {
+            broken.clone().contracted(link.ends)
+        };
+        [sound, broken]
+    }
+}
+
+impl Figure {
+    fn times(self, [low, high]: [u32; 2]) -> Figure {
+        Figure {
+            low: product(Side::Low, low, self.low),
+            high: product(Side::High, high, self.high),
+            ..self
+        }
+    }
+}
+
+pub fn figure(network: Network, limit: u64) -> Figure {
+    match network.step() {
+        Step::Known(value) => Figure {
+            low: value,
+            high: value,
+            steps: 0,
+            finished: true,
+        },
+        Step::Rest(rest, factors) => figure(rest, limit).times(factors),
+        Step::Split(..) if limit == 0 => Figure {
+            low: 0,
+            high: S,
+            steps: 0,
+            finished: false,
+        },
+        Step::Split(p, sound, broken) => {
+            let sound = figure(sound, limit - 1);
+            let broken = figure(broken, limit - 1 - sound.steps);
+            Figure {
+                low: split(Side::Low, p.low, sound.low, broken.low),
+                high: split(Side::High, p.high, sound.high, broken.high),
+                steps: 1 + sound.steps + broken.steps,
+                finished: sound.finished && broken.finished,
+            }
+        }
+    }
+}
+
+/// The splits that the network needs.
+pub fn needed(network: Network) -> u64 {
+    match network.step() {
+        Step::Known(_) => 0,
+        Step::Rest(rest, _) => needed(rest),
+        Step::Split(_, sound, broken) => 1 + needed(sound) + needed(broken),
+    }
+}
+
+impl From<Figure> for Answer {
+    fn from(figure: Figure) -> Answer {
+        Answer {
+            low: figure.low.into(),
+            high: figure.high.into(),
+            steps: figure.steps,
+            finished: figure.finished,
+        }
+    }
+}
+
+fn minus(a: Figure, b: Figure) -> Answer {
+    Answer {
+        low: i64::from(a.low) - i64::from(b.high),
+        high: i64::from(a.high) - i64::from(b.low),
+        steps: a.steps + b.steps,
+        finished: a.finished && b.finished,
+    }
+}
+
+pub fn importance(network: &Network, place: usize, limit: u64) -> Answer {
+    let [sound, broken] = network.branches(place).map(|n| figure(n, limit));
+    let difference = minus(sound, broken);
+    Answer {
+        low: difference.low.max(0),
+        ..difference
+    }
+}
+
+pub fn difference(a: Network, b: Network, limit: u64) -> Answer {
+    minus(figure(a, limit), figure(b, limit))
+}

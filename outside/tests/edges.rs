@@ -1,0 +1,147 @@
+//! The largest sizes, values, limits and buffers that pass, and one more of each.
+
+use outside::arithmetic::S;
+use outside::calls::{held, Call, Outcome};
+use outside::plans::{Plan, LENGTH};
+
+/// A ring of all nodes, run round until there are enough links, so that it takes no split.
+fn ring(nodes: u16, count: usize, value: u32) -> Vec<u8> {
+    let ends: Vec<[u8; 2]> = (0..count)
+        .map(|i| [i, i + 1].map(|v| (v % usize::from(nodes)) as u8))
+        .collect();
+    Plan::alike(nodes, value, &ends).bytes()
+}
+
+/// Number returned by each call that is made with this plan and limit: check, figure, importance, difference with the
+/// plan first, and second.
+fn numbers(plan: &[u8], limit: u64) -> [u64; 5] {
+    let good = &ring(3, 3, S);
+    let calls = [
+        Call::Check { plan },
+        Call::Figure { plan, limit },
+        Call::Importance {
+            plan,
+            place: 0,
+            limit,
+        },
+        Call::Difference {
+            a: plan,
+            b: good,
+            limit,
+        },
+        Call::Difference {
+            a: good,
+            b: plan,
+            limit,
+        },
+    ];
+    calls.map(|call| held(&call, 16).err().unwrap_or(0))
+}
+
+const PASSED: [u64; 5] = [0; 5];
+
+fn refused(number: u64) -> [u64; 5] {
+    [number, number, number, number, number + 20]
+}
+
+#[test]
+fn the_most_that_passes_and_one_more() {
+    let limit = 1_000_000;
+    assert_eq!(numbers(&ring(32, 64, S), limit), PASSED);
+    assert_eq!(numbers(&ring(32, 64, LENGTH + 511), limit), PASSED);
+    assert_eq!(numbers(&ring(33, 64, S), limit), refused(2));
+    assert_eq!(numbers(&ring(32, 65, S), limit), refused(3));
+    assert_eq!(numbers(&ring(32, 64, S + 1), limit), refused(6));
+    assert_eq!(numbers(&ring(32, 64, LENGTH + 512), limit), refused(6));
+}
+
+#[test]
+fn each_link_with_one_more() {
+    for i in 0..64 {
+        let mut plan = Plan::complete(12, LENGTH + 511);
+        plan.links.truncate(64);
+        plan.links[i].value = S + 1;
+        assert_eq!(numbers(&plan.bytes(), 0), refused(6 + 256 * i as u64));
+        plan.links[i].ends[i % 2] = 12;
+        assert_eq!(numbers(&plan.bytes(), 0), refused(5 + 256 * i as u64));
+    }
+}
+
+#[test]
+fn limits_are_64_bits() {
+    let plan = ring(3, 3, S);
+    for limit in [0, 1, 999_999, 1_000_000] {
+        assert_eq!(numbers(&plan, limit), PASSED, "limit {limit}");
+    }
+    for limit in [
+        1_000_001,
+        1 << 20,
+        1 << 31,
+        1 << 32,
+        (1 << 32) + 5,
+        1 << 63,
+        u64::MAX,
+    ] {
+        assert_eq!(numbers(&plan, limit), [0, 7, 7, 7, 7], "limit {limit}");
+    }
+}
+
+#[test]
+fn places_are_64_bits() {
+    let plan = &ring(5, 64, S / 2);
+    let asked = |place| -> Outcome {
+        let limit = 0;
+        held(&Call::Importance { plan, place, limit }, 16)
+    };
+    for place in [0, 1, 31, 32, 63] {
+        assert!(asked(place).is_ok(), "place {place}");
+    }
+    for place in [64, 65, 256, 1 << 32, (1 << 32) + 1, 1 << 63, u64::MAX] {
+        assert_eq!(asked(place), Err(8), "place {place}");
+    }
+}
+
+/// Nothing behind byte 16 changes, and nothing at all where the buffer is too short.
+#[test]
+fn buffers_of_0_to_40_bytes() {
+    let (plan, b) = (&ring(4, 6, S / 2), &ring(3, 5, S / 3));
+    let (limit, place) = (10, 3);
+    for room in 0..=40 {
+        let number = if room < 16 { Err(9) } else { Ok(()) };
+        let calls = [
+            Call::Figure { plan, limit },
+            Call::Importance { plan, place, limit },
+            Call::Difference { a: plan, b, limit },
+        ];
+        for call in calls {
+            assert_eq!(held(&call, room).map(|_| ()), number, "{call:?} {room}");
+        }
+    }
+}
+
+/// A file or a buffer of no bytes may be at no address at all.
+#[cfg(desk)]
+#[test]
+fn no_bytes_at_no_address() {
+    use outside::desk;
+    let plan = &ring(3, 3, S);
+    assert_eq!(desk::check_nothing(), 1);
+    assert_eq!(desk::figure_into_nothing(plan, 5), 9);
+    assert_eq!(desk::figure_into_nothing(plan, 1_000_001), 7);
+}
+
+/// Low is the most negative, high the largest.
+#[test]
+fn the_ends_of_a_difference() {
+    let (certain, parted) = (&ring(3, 3, S), &Plan::new(2, &[]).bytes());
+    let asked = |a, b| {
+        let call = Call::Difference { a, b, limit: 0 };
+        let answer = held(&call, 16).unwrap().unwrap();
+        (answer.low, answer.high)
+    };
+    let whole = i64::from(S);
+    assert_eq!(asked(certain, parted), (whole, whole));
+    assert_eq!(asked(parted, certain), (-whole, -whole));
+    let unfinished = &Plan::complete(4, S / 2).bytes();
+    assert_eq!(asked(unfinished, unfinished), (-whole, whole));
+}

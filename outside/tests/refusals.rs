@@ -1,0 +1,205 @@
+//! Every row of the table of causes, alone and in pairs, at each of the four calls: of the independent version, and of the
+//! library where it is linked.
+
+use outside::arithmetic::S;
+use outside::calls::{held, Call};
+use outside::plans::{Plan, LENGTH};
+
+/// Everything that can be wrong with a file: its plan, then its length, then all but its first bytes lost.
+#[derive(Clone)]
+struct File {
+    plan: Plan,
+    longer: usize,
+    shorter: usize,
+    kept: usize,
+}
+
+impl File {
+    fn bytes(&self) -> Vec<u8> {
+        let mut bytes = self.plan.bytes();
+        bytes.extend(vec![0; self.longer]);
+        bytes.truncate(bytes.len() - self.shorter);
+        bytes.truncate(self.kept);
+        bytes
+    }
+}
+
+#[derive(Clone)]
+struct Asked {
+    limit: u64,
+    room: usize,
+    place: u64,
+    a: File,
+    b: File,
+}
+
+fn accepted() -> Asked {
+    let file = File {
+        plan: Plan::new(3, &[(0, 1, S), (1, 2, LENGTH + 511), (2, 0, 0)]),
+        longer: 0,
+        shorter: 0,
+        kept: usize::MAX,
+    };
+    Asked {
+        limit: 1_000_000,
+        room: 16,
+        place: 2,
+        a: file.clone(),
+        b: file,
+    }
+}
+
+/// The number that a cause is refused with, and one way of bringing the cause about.
+type Fault<T> = (u64, Box<dyn Fn(&mut T)>);
+
+fn fault<T>(number: u64, spoils: impl Fn(&mut T) + 'static) -> Fault<T> {
+    (number, Box::new(spoils))
+}
+
+/// Rows 1 to 6, in the order in which they are tested.
+fn of_the_file() -> Vec<Fault<File>> {
+    let mut faults = Vec::new();
+    for kept in 0..4 {
+        faults.push(fault(1, move |f: &mut File| f.kept = kept));
+    }
+    for nodes in [0, 33, 256, 65_535] {
+        faults.push(fault(2, move |f: &mut File| f.plan.nodes = nodes));
+    }
+    for count in [65, 256, 4_096] {
+        faults.push(fault(3, move |f: &mut File| {
+            let link = f.plan.links[0];
+            f.plan.links.resize(count, link);
+        }));
+    }
+    for extra in [1, 6] {
+        faults.push(fault(4, move |f: &mut File| f.longer = extra));
+        faults.push(fault(4, move |f: &mut File| f.shorter = extra));
+    }
+    for i in 0..3 {
+        for (which, node) in [(0, 3), (1, 3), (0, 255), (1, 32)] {
+            faults.push(fault(5 + 256 * i as u64, move |f: &mut File| {
+                f.plan.links[i].ends[which] = node
+            }));
+        }
+        for value in [S + 1, LENGTH - 1, LENGTH + 512, u32::MAX] {
+            faults.push(fault(6 + 256 * i as u64, move |f: &mut File| {
+                f.plan.links[i].value = value
+            }));
+        }
+    }
+    faults
+}
+
+fn of_the_limit_and_the_buffer() -> Vec<Fault<Asked>> {
+    let mut faults = Vec::new();
+    for limit in [1_000_001, 1 << 32, (1 << 32) + 1_000_000, u64::MAX] {
+        faults.push(fault(7, move |q: &mut Asked| q.limit = limit));
+    }
+    for room in [0, 1, 15] {
+        faults.push(fault(9, move |q: &mut Asked| q.room = room));
+    }
+    faults
+}
+
+/// The faults of one of the files, its numbers raised by `more`.
+fn of(file: fn(&mut Asked) -> &mut File, more: u64) -> Vec<Fault<Asked>> {
+    let faults = of_the_file().into_iter();
+    faults
+        .map(|(number, spoils)| fault(number + more, move |q: &mut Asked| spoils(file(q))))
+        .collect()
+}
+
+fn of_plan_a() -> Vec<Fault<Asked>> {
+    of(|q| &mut q.a, 0)
+}
+
+fn of_plan_b() -> Vec<Fault<Asked>> {
+    of(|q| &mut q.b, 20)
+}
+
+fn of_the_place() -> Vec<Fault<Asked>> {
+    let places = [3, 64, 1 << 32, (1 << 32) + 2, u64::MAX];
+    places
+        .map(|place| fault(8, move |q: &mut Asked| q.place = place))
+        .into()
+}
+
+/// Each fault alone, and each two with different numbers: the one that is tested first decides.
+fn alone_and_in_pairs(faults: &[Fault<Asked>], returned: impl Fn(&Asked) -> Result<(), u64>) {
+    assert_eq!(returned(&accepted()), Ok(()));
+    for (i, (number, spoils)) in faults.iter().enumerate() {
+        let mut one = accepted();
+        spoils(&mut one);
+        assert_eq!(returned(&one), Err(*number), "fault {i}");
+        for (j, (later, spoils_too)) in faults.iter().enumerate().skip(i + 1) {
+            if later != number {
+                let mut two = one.clone();
+                spoils_too(&mut two);
+                assert_eq!(returned(&two), Err(*number), "faults {i} and {j}");
+            }
+        }
+    }
+}
+
+fn returned(call: Call, room: usize) -> Result<(), u64> {
+    held(&call, room).map(|_| ())
+}
+
+#[test]
+fn of_check() {
+    alone_and_in_pairs(&of_plan_a(), |q| {
+        let plan = &q.a.bytes();
+        returned(Call::Check { plan }, q.room)
+    });
+}
+
+#[test]
+fn of_figure() {
+    let mut faults = of_the_limit_and_the_buffer();
+    faults.extend(of_plan_a());
+    alone_and_in_pairs(&faults, |q| {
+        let plan = &q.a.bytes();
+        let limit = q.limit;
+        returned(Call::Figure { plan, limit }, q.room)
+    });
+}
+
+#[test]
+fn of_importance() {
+    let mut faults = of_the_limit_and_the_buffer();
+    faults.extend(of_plan_a());
+    faults.extend(of_the_place());
+    alone_and_in_pairs(&faults, |q| {
+        let plan = &q.a.bytes();
+        let (place, limit) = (q.place, q.limit);
+        returned(Call::Importance { plan, place, limit }, q.room)
+    });
+}
+
+#[test]
+fn of_difference() {
+    let mut faults = of_the_limit_and_the_buffer();
+    faults.extend(of_plan_a());
+    faults.extend(of_plan_b());
+    alone_and_in_pairs(&faults, |q| {
+        let [a, b] = [&q.a, &q.b].map(File::bytes);
+        let limit = q.limit;
+        returned(
+            Call::Difference {
+                a: &a,
+                b: &b,
+                limit,
+            },
+            q.room,
+        )
+    });
+}
+
+/// A limit or a buffer that no check has, and a place, play no part in it.
+#[test]
+fn check_has_rows_1_to_6_alone() {
+    let plan = accepted().a.bytes();
+    for room in [0, 15, 16] {
+        assert_eq!(returned(Call::Check { plan: &plan }, room), Ok(()));
+    }
+}

@@ -1,0 +1,220 @@
+//! The independent version of the rule, and the library where it is linked, against every figure that the request prints.
+
+use outside::arithmetic::{split, Side, S};
+use outside::calls::{answer_bytes, held, read, Call};
+use outside::plans::{Link, Plan, LENGTH};
+use outside::random::Random;
+use outside::rule::{difference, figure, needed, Answer, Figure, Network};
+use outside::states::Exact;
+use std::cmp::Ordering;
+
+const HALF: u32 = S / 2;
+const TRIANGLE: [[u8; 2]; 3] = [[0, 1], [1, 2], [0, 2]];
+const FOUR: [[u8; 2]; 6] = [[0, 1], [0, 2], [0, 3], [1, 2], [1, 3], [2, 3]];
+
+fn listed() -> Plan {
+    Plan::new(2, &[(0, 1, 900_000_000), (0, 1, 800_000_000)])
+}
+
+fn sample() -> Plan {
+    let links = [
+        (0, 3, 950_000_000),
+        (0, 1, 910_000_000),
+        (1, 2, 980_000_000),
+        (0, 2, 880_000_000),
+        (1, 4, 910_000_000),
+    ];
+    Plan::new(5, &links)
+}
+
+#[test]
+fn the_plans_that_are_written_down() {
+    let path = Plan::alike(3, HALF, &TRIANGLE[..2]);
+    let triangle = |value| Plan::alike(3, value, &TRIANGLE);
+    let four = || Plan::alike(4, HALF, &FOUR);
+    let rows = [
+        ("P1", Plan::new(1, &[]), 20_000, S, S, 0, true),
+        ("P2", Plan::new(2, &[]), 20_000, 0, 0, 0, true),
+        ("P3", Plan::new(1, &[(0, 0, 0)]), 20_000, S, S, 0, true),
+        ("P4", listed(), 20_000, 980_000_000, 980_000_000, 0, true),
+        ("P5", path, 20_000, 250_000_000, 250_000_000, 0, true),
+        (
+            "P6",
+            triangle(HALF),
+            20_000,
+            499_999_999,
+            500_000_001,
+            0,
+            true,
+        ),
+        ("P7", triangle(0), 20_000, 0, 0, 0, true),
+        ("P8", triangle(S), 20_000, S, S, 0, true),
+        ("P9", sample(), 20_000, 851_905_963, 851_905_965, 0, true),
+        ("P10", four(), 1, 593_749_999, 593_750_001, 1, true),
+        ("P11", four(), 0, 0, S, 0, false),
+    ];
+    for (name, plan, limit, low, high, steps, finished) in rows {
+        let expected = Answer {
+            low: low.into(),
+            high: high.into(),
+            steps,
+            finished,
+        };
+        let bytes = &plan.bytes();
+        let call = Call::Figure { plan: bytes, limit };
+        assert_eq!(held(&call, 16), Ok(Some(expected)), "{name}");
+        if finished {
+            assert_eq!(needed(Network::from(&plan)), steps, "{name}");
+        }
+    }
+}
+
+/// Where a link is sound its ends are one node, and that branch takes what steps it needs of those that are left.
+#[test]
+fn sound_comes_first() {
+    let five = Network::from(&Plan::complete(5, HALF));
+    let merged = [
+        [0, 1],
+        [0, 1],
+        [0, 2],
+        [0, 2],
+        [1, 2],
+        [0, 3],
+        [0, 3],
+        [1, 3],
+        [2, 3],
+    ];
+    let sound = figure(Network::from(&Plan::alike(4, HALF, &merged)), 1);
+    assert!(sound.finished && sound.steps == 1);
+    let expected = Figure {
+        low: split(Side::Low, HALF, sound.low, 0),
+        high: split(Side::High, HALF, sound.high, S),
+        steps: 2,
+        finished: false,
+    };
+    assert_eq!(figure(five, 2), expected);
+}
+
+#[test]
+fn zero_links_count() {
+    let four = Network::from(&Plan::alike(4, 0, &FOUR));
+    let asked = |limit| {
+        let figure = figure(four.clone(), limit);
+        (figure.low, figure.high, figure.steps, figure.finished)
+    };
+    assert_eq!(asked(0), (0, S, 0, false));
+    assert_eq!(asked(1), (0, 0, 1, true));
+}
+
+/// A loop at each node of P5 changes nothing.
+#[test]
+fn loops_do_not_count() {
+    let ends = [[0, 0], [0, 1], [1, 1], [1, 2], [2, 2]];
+    let figure = figure(Network::from(&Plan::alike(3, HALF, &ends)), 0);
+    assert_eq!((figure.low, figure.high), (250_000_000, 250_000_000));
+    assert!(figure.finished);
+}
+
+/// At a node of the complete graph on n nodes, n - 3 splits and a series each leave the complete graph on one node less: so
+/// it ends in (n - 2)! networks. That number is known not to depend on the links that are chosen.
+#[test]
+fn splits_of_the_complete_graphs() {
+    let mut random = Random::new(5);
+    for (nodes, ends) in [(3, 1), (4, 2), (5, 6), (6, 24), (7, 120), (8, 720)] {
+        let mut plan = Plan::complete(nodes, HALF);
+        for _ in 0..3 {
+            assert_eq!(needed(Network::from(&plan)), ends - 1, "{plan:?}");
+            random.shuffle(&mut plan.links);
+        }
+    }
+}
+
+#[test]
+fn the_exact_figures_that_are_written_down() {
+    let rows = [
+        ("P1", Plan::new(1, &[]), S),
+        ("P2", Plan::new(2, &[]), 0),
+        ("P3", Plan::new(1, &[(0, 0, 0)]), S),
+        ("P4", listed(), 980_000_000),
+        ("P5", Plan::alike(3, HALF, &TRIANGLE[..2]), 250_000_000),
+        ("P6", Plan::alike(3, HALF, &TRIANGLE), 500_000_000),
+        ("P10, 38 of 64", Plan::alike(4, HALF, &FOUR), 593_750_000),
+    ];
+    for (name, plan, exact) in rows {
+        assert_eq!(
+            Exact::figure(&plan).compared(exact.into()),
+            Ordering::Equal,
+            "{name}"
+        );
+    }
+    let sample = Exact::figure(&sample());
+    assert!(sample.compared(851_905_964).is_ge() && sample.compared(851_905_965).is_lt());
+}
+
+#[test]
+fn the_listing() {
+    let plan = &listed().bytes();
+    for (place, value) in [(0, 200_000_000), (1, 100_000_000)] {
+        let expected = Answer {
+            low: value,
+            high: value,
+            steps: 0,
+            finished: true,
+        };
+        let limit = 20_000;
+        let call = Call::Importance { plan, place, limit };
+        assert_eq!(held(&call, 16), Ok(Some(expected)));
+        let exact = Exact::importance(&listed(), place as usize);
+        assert_eq!(exact.compared(value), Ordering::Equal);
+    }
+}
+
+/// 0.98 against the triangle of halves, both ways round, and a difference whose ends have two signs.
+#[test]
+fn differences_by_hand() {
+    let [a, b] = [listed(), Plan::alike(3, HALF, &TRIANGLE)];
+    let minus = |a: &Plan, b: &Plan| {
+        let answer = difference(Network::from(a), Network::from(b), 20_000);
+        assert!(Exact::difference(a, b).is_enclosed_by(&answer));
+        (answer.low, answer.high)
+    };
+    assert_eq!(minus(&a, &b), (479_999_999, 480_000_001));
+    assert_eq!(minus(&b, &a), (-480_000_001, -479_999_999));
+    assert_eq!(minus(&b, &b), (-2, 2));
+    let exact = Exact::difference(&b, &a);
+    assert_eq!(exact.compared(-480_000_000), Ordering::Equal);
+    assert_eq!(exact.compared(-480_000_001), Ordering::Greater);
+    assert_eq!(exact.compared(-479_999_999), Ordering::Less);
+}
+
+#[test]
+fn the_bytes_of_a_plan() {
+    let plan = Plan::new(3, &[(0, 1, S), (2, 1, LENGTH + 511)]);
+    let bytes = [
+        3, 0, 2, 0, 0, 1, 2, 1, 0x00, 0xca, 0x9a, 0x3b, 0xff, 0x01, 0, 0x80,
+    ];
+    assert_eq!(plan.bytes(), bytes);
+    assert_eq!(read(&bytes), Ok(plan));
+    let lengths = [(0, S), (1, 999_700_000), (2, 999_400_090), (3, 999_100_269)];
+    for (k, units) in lengths {
+        let link = Link {
+            ends: [0, 1],
+            value: LENGTH + k,
+        };
+        assert_eq!(link.units(), units);
+    }
+}
+
+#[test]
+fn the_bytes_of_an_answer() {
+    let answer = Answer {
+        low: -2,
+        high: 1_000_000_000,
+        steps: 2_000_000,
+        finished: true,
+    };
+    let bytes = [
+        0xfe, 0xff, 0xff, 0xff, 0x00, 0xca, 0x9a, 0x3b, 0x80, 0x84, 0x1e, 0, 1, 0, 0, 0,
+    ];
+    assert_eq!(answer_bytes(&answer), bytes);
+}
