@@ -7,7 +7,6 @@ fn main() {
     let root = PathBuf::from(env::var("CARGO_MANIFEST_DIR").unwrap()).join("..");
     let folder = root.join("target").join("staticlib");
     println!("cargo:rerun-if-changed=libraries.txt");
-    println!("cargo:rustc-check-cfg=cfg(desk)");
     println!("cargo:rustc-link-search=native={}", folder.display());
     let lines = include_str!("libraries.txt").lines();
     for name in lines.filter(|line| !line.starts_with('#')) {
@@ -17,8 +16,5 @@ fn main() {
             format!("target/staticlib/lib{name}.a is missing: rt staticlib {name} writes it");
         assert!(archive.exists(), "{missing}");
         println!("cargo:rustc-link-lib=static={name}");
-        if name == "desk" {
-            println!("cargo:rustc-cfg=desk");
-        }
     }
 }

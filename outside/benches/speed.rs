@@ -53,7 +53,6 @@ fn straightforward(plan: &Plan, limit: u64) -> Vec<u8> {
     answer_bytes(&figure(Network::from(plan), limit).into())
 }
 
-#[cfg(desk)]
 fn engine(plan: &Plan, limit: u64) -> Vec<u8> {
     let plan = &plan.bytes();
     let mut answer = vec![0; outside::calls::ANSWER];
@@ -63,7 +62,6 @@ fn engine(plan: &Plan, limit: u64) -> Vec<u8> {
 }
 
 const VERSIONS: &[(&str, Version)] = &[
-    #[cfg(desk)]
     ("engine", engine),
     ("straightforward", straightforward),
 ];
@@ -114,8 +112,5 @@ fn main() {
                 median(straightforward) / median(engine)
             );
         }
-    }
-    if !cfg!(desk) {
-        println!("The engine is left out: libraries.txt does not list desk.");
     }
 }

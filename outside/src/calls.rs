@@ -140,10 +140,9 @@ pub fn left(outcome: &Outcome, buffer: &[u8]) -> (u64, Vec<u8>) {
     }
 }
 
-/// The outcome of a call by the rule, to which the library is held where it is linked.
+/// The outcome of a call by the rule, to which the library is held.
 pub fn held(call: &Call, room: usize) -> Outcome {
     let outcome = call.outcome(room);
-    #[cfg(desk)]
     crate::desk::hold(call, room, &outcome);
     outcome
 }

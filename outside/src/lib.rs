@@ -3,7 +3,6 @@
 
 pub mod arithmetic;
 pub mod calls;
-#[cfg(desk)]
 pub mod desk;
 pub mod library;
 pub mod plans;

@@ -1,5 +1,4 @@
 //! Plans with too many links to sum over their states: the library against the independent version of the rule.
-#![cfg(desk)]
 
 use outside::calls::{held, Call};
 use outside::plans::Plan;

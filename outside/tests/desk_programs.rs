@@ -1,5 +1,4 @@
 //! Programs in C that link the library: the example, and a run of damaged plans under a memory checker.
-#![cfg(desk)]
 
 use outside::arithmetic::S;
 use outside::calls::{left, Call};

@@ -1,5 +1,4 @@
 //! Whole calls at the largest sizes, on a stack of 512 KiB.
-#![cfg(desk)]
 
 use outside::arithmetic::S;
 use outside::calls::{left, Call, MOST_STEPS};

@@ -120,7 +120,6 @@ fn buffers_of_0_to_40_bytes() {
 }
 
 /// A file or a buffer of no bytes may be at no address at all.
-#[cfg(desk)]
 #[test]
 fn no_bytes_at_no_address() {
     use outside::desk;

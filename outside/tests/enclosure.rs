@@ -1,5 +1,5 @@
 //! Figures, importances and differences of random plans against exact sums over the states, and against what is claimed of
-//! them: of the independent version of the rule, and of the library where it is linked.
+//! them: of the independent version of the rule, and of the library.
 
 use outside::calls::{held, limits_around, Call};
 use outside::plans::Plan;

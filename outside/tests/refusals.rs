@@ -1,5 +1,5 @@
 //! Every row of the table of causes, alone and in pairs, at each of the four calls: of the independent version, and of the
-//! library where it is linked.
+//! library.
 
 use outside::arithmetic::S;
 use outside::calls::{held, Call};

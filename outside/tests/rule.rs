@@ -1,4 +1,4 @@
-//! The independent version of the rule, and the library where it is linked, against every figure that the request prints.
+//! The independent version of the rule and the library against every figure that the request prints.
 
 use outside::arithmetic::{split, Side, S};
 use outside::calls::{answer_bytes, held, read, Call};
