@@ -1,16 +1,20 @@
 -- The network of an accepted plan is valid, with its low and high values equal.
 use Prim.Native.Nat.{ℕ, zero, suc, _+_, _≤_, _<_}
-use mathlib.Core.Path.{_≡_, refl, sym, ap, _∙_}
-use mathlib.Core.List.{List, [], _∷_, List·Memᴰ, List·Memᴰ·head, List·Memᴰ·tail, List·Memᴰ·not-nil, List·Memᴰ·cases-cons}
+use mathlib.Core.Path.{_≡_, refl, sym, ap, ap₂, subst}
+use mathlib.Core.List.{List, _∷_, List·Memᴰ, List·Memᴰ·head, List·Memᴰ·tail, List·Memᴰ·not-nil, List·Memᴰ·cases-cons}
 use mathlib.Core.Logic.{⊎-elim}
+use native.Mathlib.Nat.{le-of-lt}
 use native.Mathlib.Omega.{arith}
 use native.Mathlib.Decide.{ℕ-discrete}
 use lib.ListN.{length}
 use Rattle.reliability.specs.Networks.{Network, Ascending, Valid}
 use Rattle.reliability.specs.Exact.{Equal}
+use Rattle.reliability.specs.Comparisons.{importance}
+use Rattle.network.specs.declared.Network.{Network as Slots}
 use Rattle.plan.specs.declared.Verdict.the-variants.{Accepted}
-use Rattle.plan.specs.Plans.{sizeN, sizeM, verdict, linksIn, planOf}
-use Rattle.network.specs.Places.{from}
+use Rattle.plan.specs.Plans.{sizeN, sizeM, verdict, planOf}
+use Rattle.network.specs.Places.{from, networkOf, indexOf, Used, Built}
+use Rattle.network.proofs.Picks.{built-used, built-index}
 use Rattle.plan.proofs.Links.{length-links, one-value, links-proper}
 
 pub length-from : (i k : ℕ) → length (from i k) ≡ k
@@ -49,3 +53,16 @@ module _ (b : List ℕ) where
 
   pub plan-nodes : length (planOf b .nodes) ≡ sizeN b
   plan-nodes = length-from 0 (sizeN b)
+
+  -- a network by value that stands for the plan
+  module _ (n : Slots) (is : networkOf n ≡ planOf b) where
+    pub stands-valid : verdict b ≡ Accepted → Valid (networkOf n)
+    stands-valid h = subst Valid (sym is) (plan-valid h)
+
+    -- with its links at their places
+    module _ (built : Built n (sizeM b)) (place : ℕ) (within : place < sizeM b) where
+      pub stands-plain : verdict b ≡ Accepted → Valid (networkOf n) × Equal (networkOf n) × Used n place
+      stands-plain h = (stands-valid h, subst Equal (sym is) plan-equal, built-used n (sizeM b) built place within)
+
+      pub stands-importance : (limit : ℕ) → importance (networkOf n) (indexOf n place) limit ≡ importance (planOf b) place limit
+      stands-importance limit = ap₂ (λ (h : Network) (k : ℕ). importance h k limit) is (built-index n (sizeM b) built place (le-of-lt within))

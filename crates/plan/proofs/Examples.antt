@@ -28,7 +28,7 @@ pub pair : ℕ → ℕ → ℕ → ℕ → List ℕ
 pair p q r s = 2 ∷ 0 ∷ 2 ∷ 0 ∷ p ∷ q ∷ r ∷ s ∷ replicate 8 0
 
 -- P4: links 0 to 1 of 900,000,000 and 0 to 1 of 800,000,000
-pub listed : List ℕ
+unfoldable pub listed : List ℕ
 listed = 2 ∷ 0 ∷ 2 ∷ 0 ∷ 0 ∷ 1 ∷ 0 ∷ 1 ∷ 0 ∷ 233 ∷ 164 ∷ 53 ∷ 0 ∷ 8 ∷ 175 ∷ 47 ∷ []
 
 pub rows : List Row

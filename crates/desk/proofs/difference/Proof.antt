@@ -1,15 +1,15 @@
 use Prim.Native.Nat.{ℕ, _+_, _≤_}
-use mathlib.Core.Path.{_≡_, sym, ap, ap₂, _∙_, subst}
+use mathlib.Core.Path.{_≡_, sym, ap, ap₂, _∙_}
 use native.Mathlib.Omega.{arith}
 use mir.Syntax.{w32}
 use mir.Facts.{toZ-ofZ}
 use lib.ListN.{length}
 use Rattle.reliability.specs.declared.Difference.{Difference}
-use Rattle.reliability.specs.Networks.{Network as Graph, Valid}
+use Rattle.reliability.specs.Networks.{Network as Graph}
 use Rattle.reliability.specs.Comparisons.{difference}
 use Rattle.plan.specs.declared.Verdict.the-variants.{Accepted}
 use Rattle.plan.specs.Plans.{verdict, returned, planOf}
-use Rattle.plan.proofs.Accepted.{plan-valid}
+use Rattle.plan.proofs.Accepted.{stands-valid}
 use Rattle.desk.specs.Outcomes.{asked, figureVerdict, unlessSecond, accepted, answered, twos, withDifference, Outcome, differenceOutcome}
 use Rattle.desk.proofs.Calls.{asked-accepted, refused, refused-second, answers, answers-second}
 use Rattle.plan.proofs.Verdicts.{returned-range, both-accepted}
@@ -85,7 +85,7 @@ difference-requires : tie.Need-difference-requires
 difference-requires c κs =
     let k = asks (c .before .before .before .before .before) in
     let a = c .before .before .before .before .before .before .before .before .before .before .before .args in
-    (subst Valid (sym (c .before .network-of .ensures .0)) (plan-valid (a .first .now) (k .2)), subst Valid (sym (c .network-of2 .ensures .0)) (plan-valid (a .second .now) (second-ok (c .before .before))), omega (arith, k .0))
+    (stands-valid (a .first .now) (c .before .network-of .result) (c .before .network-of .ensures .0) (k .2), stands-valid (a .second .now) (c .network-of2 .result) (c .network-of2 .ensures .0) (second-ok (c .before .before)), omega (arith, k .0))
 
 bits-of-requires : tie.Need-bits-of-requires
 bits-of-requires c κs = search needs

@@ -1,17 +1,12 @@
-use Prim.Native.Nat.{ℕ, _≤_, _<_}
-use mathlib.Core.Path.{_≡_, sym, ap, _∙_, subst}
-use native.Mathlib.Nat.{le-of-lt}
+use Prim.Native.Nat.{_≤_, _<_}
+use mathlib.Core.Path.{_≡_, sym, ap, _∙_}
 use native.Mathlib.Omega.{arith}
 use lib.ListN.{length}
 use Rattle.reliability.specs.declared.Figure.{Figure}
-use Rattle.reliability.specs.Networks.{Network as Graph, Valid}
-use Rattle.reliability.specs.Exact.{Equal}
 use Rattle.reliability.specs.Comparisons.{importance}
-use Rattle.network.specs.Places.{networkOf}
-use Rattle.network.proofs.Picks.{built-used, built-index}
 use Rattle.plan.specs.declared.Verdict.the-variants.{Accepted}
 use Rattle.plan.specs.Plans.{sizeM, verdict, returned, planOf}
-use Rattle.plan.proofs.Accepted.{plan-valid, plan-equal}
+use Rattle.plan.proofs.Accepted.{stands-plain, stands-importance}
 use Rattle.desk.specs.Outcomes.{asked, placed, figureVerdict, importanceVerdict, importanceOutcome, accepted, withFigure, Outcome}
 use Rattle.plan.proofs.Verdicts.{both-accepted}
 use Rattle.desk.proofs.Calls.{asked-accepted, placed-accepted, refused, answers}
@@ -57,13 +52,9 @@ network-of-requires c κs = asks c .2
 importance-requires : tie.Need-importance-requires
 importance-requires c κs =
     let k = asks (c .before) in
-    let b = c .before .before .before .before .before .before .args .plan .now in
-    let n = c .network-of .result in (
-      subst Valid (sym (c .network-of .ensures .0)) (plan-valid b (k .2)),
-      subst Equal (sym (c .network-of .ensures .0)) (plan-equal b),
-      built-used n (sizeM b) (c .network-of .ensures .1) (c .before .before .before .before .before .before .args .place) (k .3),
-      omega (arith, k .0),
-    )
+    let a = c .before .before .before .before .before .before .args in
+    let (valid, equal, used) = stands-plain (a .plan .now) (c .network-of .result) (c .network-of .ensures .0) (c .network-of .ensures .1) (a .place) (k .3) (k .2) in
+    (valid, equal, used, omega (arith, k .0))
 
 put-answer-requires : tie.Need-put-answer-requires
 put-answer-requires c κs = asks (c .before .before .before) .1
@@ -76,9 +67,12 @@ unfolding importanceOutcome
 returns-2 c =
     let a = c .before .before .before .before .before .before .before .before .before .before .before .args in
     let b = a .answer .now in
+    let n = c .before .before .before .before .before .network-of in
     let e = answers (importanceVerdict (a .plan .now) (a .place) (a .limit) (length (a .answer .now))) b (accepted (withFigure (importance (planOf (a .plan .now)) (a .place) (a .limit)) b)) (ok (c .before .before .before .before .before .before)) in (
       ap (λ (o : Outcome). o .returned) e,
-      c .before .before .put-answer .ensures ∙ ap (λ (f : Figure). withFigure f b) (c .before .before .before .before .importance .ensures ∙ ap (λ (k : ℕ). importance (networkOf (c .before .before .before .before .before .network-of .result)) k (a .limit)) (built-index (c .before .before .before .before .before .network-of .result) (sizeM (a .plan .now)) (c .before .before .before .before .before .network-of .ensures .1) (a .place) (le-of-lt (asks (c .before .before .before .before .before .before) .3))) ∙ ap (λ (h : Graph). importance h (a .place) (a .limit)) (c .before .before .before .before .before .network-of .ensures .0)) ∙ ap (λ (o : Outcome). o .buffer) e,
+      c .before .before .put-answer .ensures
+          ∙ ap (λ (f : Figure). withFigure f b) (c .before .before .before .before .importance .ensures ∙ stands-importance (a .plan .now) (n .result) (n .ensures .0) (n .ensures .1) (a .place) (asks (c .before .before .before .before .before .before) .3) (a .limit))
+          ∙ ap (λ (o : Outcome). o .buffer) e,
     )
 
 pub importance-spec : {M : Type 1} → statement M

@@ -3,7 +3,7 @@ use mathlib.Core.Path.{ap, _∙_}
 use mathlib.Core.List.{_++_}
 use lib.ListN.{drop}
 use Rattle.desk.specs.Outcomes.{le4}
-use Rattle.desk.proofs.Twos.{as-byte}
+use Rattle.factoring.proofs.Marks.{as-byte}
 use Rattle.desk.proofs.Words.{four-words}
 use borrow.Author.Needs.{needs}
 use Rattle.desk.proofs.put_answer.Statement.{statement}

@@ -1,0 +1,33 @@
+-- Plans and their listings: one proof computes them all from the definitions.
+use Prim.Native.Nat.{ℕ}
+use Prim.Native.String.{String}
+use mathlib.Core.Path.{_≡_, refl}
+use mathlib.Core.List.{List, [], _∷_, map}
+use Rattle.rounding.specs.Rounding.{quotient, product, parallel, either, series, factor, split}
+use Rattle.reliability.specs.Networks.{merge, label, every, connected}
+use Rattle.reliability.specs.Rule.{firstAt, places, firstPair, lowest, next, deleteAt, without, leaves, worked, figureOf}
+use Rattle.reliability.specs.Comparisons.{soundAt}
+use Rattle.network.specs.Places.{from}
+use Rattle.plan.specs.Plans.{rated, linkVerdict, linksVerdict, verdict, linkIn, linksIn}
+use Rattle.plan.proofs.Examples.{listed}
+use Rattle.listing.specs.Listings.{text, decimalOf, meant, filled, linkLines, listing}
+
+pub record Row : Type 0 where
+  pub plan : List ℕ
+  pub prints : String
+
+pub row : List ℕ → String → Row
+row b s = record { plan = b; prints = s }
+
+pub rows : List Row
+rows =
+    row listed "nodes 2 links 2\nlow 980000000 high 980000000 steps 0 finished 1\nlink 0 0 1 900000000 200000000 200000000\nlink 1 0 1 800000000 100000000 100000000\n"  -- document 01's
+    ∷ row (1 ∷ 0 ∷ 0 ∷ 0 ∷ []) "nodes 1 links 0\nlow 1000000000 high 1000000000 steps 0 finished 1\n"  -- P1
+    ∷ row (1 ∷ 0 ∷ 1 ∷ 0 ∷ 0 ∷ 0 ∷ 0 ∷ 0 ∷ 0 ∷ 0 ∷ []) "nodes 1 links 1\nlow 1000000000 high 1000000000 steps 0 finished 1\nlink 0 0 0 0 0 0\n"  -- P3
+    ∷ row [] "refused 1 at 0\n"
+    ∷ row (2 ∷ 0 ∷ 2 ∷ 0 ∷ 0 ∷ 1 ∷ 0 ∷ 2 ∷ 0 ∷ 0 ∷ 0 ∷ 0 ∷ 0 ∷ 0 ∷ 0 ∷ 0 ∷ []) "refused 5 at 1\n"
+    ∷ []
+
+pub examples : map (λ (r : Row). listing (r .plan)) rows ≡ map (λ (r : Row). text (r .prints)) rows
+unfolding rows row listed listing linkLines filled meant decimalOf verdict linksVerdict linkVerdict rated linkIn linksIn from soundAt figureOf worked leaves next without deleteAt lowest firstPair places firstAt connected every label merge quotient product parallel either series factor split
+examples = refl

@@ -1,0 +1,101 @@
+-- The lines of a plan's links one by one, and how long a listing can be.
+use Prim.Native.Nat.{ℕ, zero, suc, _+_, _-_, _*_, _≤_, _<_}
+use mathlib.Core.Path.{_≡_, refl, ap, _∙_, subst}
+use mathlib.Core.List.{List, [], _∷_, _++_}
+use mathlib.Core.Bool.{Bool, true, false, cond}
+use native.Mathlib.Nat.{zero-add}
+use native.Mathlib.Omega.{arith}
+use lib.ListN.{length, length-append, getD, drop}
+use lib.Seq.{length-sets, sets-eq}
+use Rattle.reliability.specs.declared.Link.{Link}
+use Rattle.reliability.specs.declared.Figure.{Figure}
+use Rattle.reliability.specs.Rule.{figure}
+use Rattle.reliability.specs.Comparisons.{importance}
+use Rattle.plan.specs.declared.Cause.{Cause}
+use Rattle.plan.specs.declared.Verdict.{Verdict}
+use Rattle.plan.specs.declared.Verdict.the-variants.{Accepted, Refused}
+use Rattle.plan.specs.Plans.{sizeN, sizeM, verdict, linkIn, planOf}
+use Rattle.plan.proofs.Verdicts.{accepted-means}
+use Rattle.listing.specs.Listings.{limit, text, isDigit, meant, filled, sizesLine, figureLine, linkLine, linkLines, refusedLine, listingBy, listing, Puts}
+use Rattle.listing.proofs.Texts.{length-decimal, number-meant, itself-meant}
+
+-- ---- link by link
+
+module _ (plan : List ℕ) (m i : ℕ) where
+  pub links-next : i < m → linkLines plan i (m - i) ≡ linkLine i (linkIn plan i) (importance (planOf plan) i limit) ++ linkLines plan (i + 1) (m - (i + 1))
+  unfolding linkLines
+  links-next h =
+      let e : m - i ≡ suc (m - (i + 1)) = omega arith in
+      let f : suc i ≡ i + 1 = omega arith in
+      ap (linkLines plan i) e ∙ ap (λ (k : ℕ). linkLine i (linkIn plan i) (importance (planOf plan) i limit) ++ linkLines plan k (m - (i + 1))) f
+
+  pub links-none : m ≤ i → linkLines plan i (m - i) ≡ []
+  unfolding linkLines
+  links-none h =
+      let e : m - i ≡ 0 = omega arith in
+      ap (linkLines plan i) e
+
+-- ---- lengths
+
+-- the room that a line of some form takes at most, a number taking ten digits
+width : List ℕ → ℕ
+width [] = 0
+width (c ∷ form) = cond (isDigit c) 10 1 + width form
+
+length-meant : (xs : List ℕ) (c : ℕ) (t : Bool) → isDigit c ≡ t → length (meant xs c) ≤ cond t 10 1
+length-meant xs c true e = subst (λ (l : List ℕ). length l ≤ 10) (number-meant xs c e (getD xs (c - 48) 0) refl) (length-decimal (getD xs (c - 48) 0))
+length-meant xs c false e = subst (λ (l : List ℕ). length l ≤ 1) (itself-meant xs c e) (omega arith)
+
+length-filled : (xs form : List ℕ) → length (filled xs form) ≤ width form
+unfolding width filled
+length-filled xs [] = omega arith
+length-filled xs (c ∷ form) = omega (arith, length-append (meant xs c) (filled xs form), length-meant xs c (isDigit c) refl, length-filled xs form)
+
+length-sizes : (n m : ℕ) → length (sizesLine n m) ≤ 34
+unfolding width
+length-sizes n m = length-filled (n ∷ m ∷ []) (text "nodes 0 links 1\n")
+
+length-figure : (f : Figure) → length (figureLine f) ≤ 68
+unfolding width
+length-figure f = length-filled _ (text "low 0 high 1 steps 2 finished 3\n")
+
+length-link : (i : ℕ) (e : Link) (f : Figure) → length (linkLine i e f) ≤ 71
+unfolding width
+length-link i e f = length-filled _ (text "link 0 1 2 3 4 5\n")
+
+length-refused : (c : Cause) → length (refusedLine c) ≤ 33
+unfolding width
+length-refused c = length-filled _ (text "refused 0 at 1\n")
+
+length-links : (plan : List ℕ) (i k : ℕ) → length (linkLines plan i k) ≤ 71 * k
+unfolding linkLines
+length-links plan i zero = omega arith
+length-links plan i (suc k) =
+    let e = linkIn plan i in
+    let f = importance (planOf plan) i limit in
+    omega (arith, length-append (linkLine i e f) (linkLines plan (suc i) k), length-link i e f, length-links plan (suc i) k)
+
+-- ---- the whole listing
+
+module _ (plan : List ℕ) where
+  -- it fits 8,192 bytes
+  pub length-listing : (v : Verdict) → verdict plan ≡ v → length (listingBy v plan) ≤ 8192
+  length-listing Accepted e =
+      let w = accepted-means plan .0 e in
+      let f = figure (planOf plan) limit in
+      let s = sizesLine (sizeN plan) (sizeM plan) in
+      let l = linkLines plan 0 (sizeM plan) in
+      omega (arith, length-append (s ++ figureLine f) l, length-append s (figureLine f), length-sizes (sizeN plan) (sizeM plan), length-figure f, length-links plan 0 (sizeM plan), w .links)
+  length-listing (Refused c) e = omega (arith, length-refused c)
+
+  listing-is : (v : Verdict) → verdict plan ≡ v → listing plan ≡ listingBy v plan
+  unfolding listing
+  listing-is v e = ap (λ u. listingBy u plan) e
+
+  -- the text once it is written, the bytes behind it as they were
+  pub listed : (v : Verdict) → verdict plan ≡ v → (b l : List ℕ) (r : ℕ) → length b ≡ 8192 → Puts b 0 (listingBy v plan) l r
+      → (r ≡ length (listing plan)) × ((r ≤ length l) × (l ≡ listing plan ++ drop (length (listing plan)) b))
+  listed v e b l r n p =
+      let t = listingBy v plan in
+      let h = length-listing v e in
+      rw (listing-is v e) (omega (arith, p .1), (omega (arith, p .1, ap length (p .0), length-sets b 0 t, n), p .0 ∙ sets-eq t b 0 (omega (arith, n)) ∙ ap (λ (k : ℕ). t ++ drop k b) (zero-add (length t))))

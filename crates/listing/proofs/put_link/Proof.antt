@@ -1,0 +1,91 @@
+use Prim.Native.Nat.{ℕ, _+_, _≤_}
+use mathlib.Core.Path.{_≡_, sym, ap₂, _∙_, subst}
+use mathlib.Core.List.{List}
+use native.Mathlib.Omega.{arith}
+use lib.ListN.{length}
+use Rattle.reliability.specs.declared.Link.{Link}
+use Rattle.reliability.specs.declared.Figure.{Figure}
+use Rattle.reliability.specs.Comparisons.{importance}
+use Rattle.plan.specs.Plans.{linkIn, planOf}
+use Rattle.plan.proofs.Verdicts.{accepted-means}
+use Rattle.plan.proofs.Accepted.{stands-plain, stands-importance}
+use Rattle.listing.specs.Listings.{limit, Puts, linkLine}
+use borrow.Author.Needs.{needs}
+use Rattle.listing.proofs.put_link.Statement.{statement}
+use Rattle.listing.proofs.put_link.Tie as tie
+use Rattle.listing.proofs.put_link.Reads as reads
+use Rattle.listing.proofs.put_link.Lts as lts
+use Rattle.factoring.proofs.importance.Reads as importance-reads
+use Rattle.listing.proofs.put_line.Reads as put-line-reads
+use Rattle.plan.proofs.link_at.Reads as link-at-reads
+use Rattle.plan.proofs.network_of.Reads as network-of-reads
+
+link-at-requires : tie.Need-link-at-requires
+link-at-requires c κs = search needs
+
+network-of-requires : tie.Need-network-of-requires
+network-of-requires c κs = search needs
+
+importance-requires : tie.Need-importance-requires
+importance-requires c κs =
+    let a = c .before .before .before .before .args in
+    let k = c .before .before .before .before .pre in
+    let n = c .network-of in
+    let (valid, equal, used) = stands-plain (a .plan .now) (n .result) (n .ensures .0) (n .ensures .1) (a .i) (k .1) (k .0) in
+    (valid, equal, used, omega arith)
+
+slice-aggregate-put-line : tie.Need-slice-aggregate-put-line
+slice-aggregate-put-line c = search needs
+
+cast-t14 : tie.Need-cast-t14
+cast-t14 c =
+    let k = c .before .before .before .before .before .before .before .pre in
+    let w = accepted-means (c .before .before .before .before .before .before .before .args .plan .now) .0 (k .0) in
+    record { fits = omega (arith, k .1, w .links) }
+
+cast-t15 : tie.Need-cast-t15
+cast-t15 c = search needs
+
+cast-t16 : tie.Need-cast-t16
+cast-t16 c = search needs
+
+slice-aggregate-put-line-2 : tie.Need-slice-aggregate-put-line-2
+slice-aggregate-put-line-2 c = search needs
+
+line : (c : tie.After-importance) → let a = c .before .before .before .before .before .args in linkLine (a .i) (c .before .before .link-at .result) (c .importance .result) ≡ linkLine (a .i) (linkIn (a .plan .now) (a .i)) (importance (planOf (a .plan .now)) (a .i) limit)
+line c =
+    let a = c .before .before .before .before .before .args in
+    let n = c .before .network-of in
+    ap₂ (λ (e : Link) (f : Figure). linkLine (a .i) e f) (c .before .before .link-at .ensures) (c .importance .ensures ∙ stands-importance (a .plan .now) (n .result) (n .ensures .0) (n .ensures .1) (a .i) (c .before .before .before .before .before .pre .1) limit)
+
+put-line-requires : tie.Need-put-line-requires
+put-line-requires c κs =
+    let q = c .before .before .before .before .before in
+    let a = q .before .before .before .before .before .args in
+    subst (λ (l : List ℕ). a .at + length l ≤ length (a .text .now)) (sym (line q)) (q .before .before .before .before .before .pre .2)
+
+same-length : tie.Need-same-length
+same-length c = search needs
+
+returns : tie.Need-returns
+returns c =
+    let p = c .before .before .put-line in
+    let q = c .before .before .before .before .before .before .before .before in
+    let a = q .before .before .before .before .before .args in
+    subst (λ (l : List ℕ). Puts (a .text .now) (a .at) l (p .last .0) (p .result)) (line q) (p .ensures)
+
+pub put-link-spec : {M : Type 1} → statement M
+put-link-spec =
+    tie.close
+    (tie.spec
+    link-at-requires
+    network-of-requires
+    importance-requires
+    slice-aggregate-put-line
+    cast-t14
+    cast-t15
+    cast-t16
+    slice-aggregate-put-line-2
+    put-line-requires
+    same-length
+    returns)

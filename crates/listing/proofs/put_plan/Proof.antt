@@ -1,0 +1,124 @@
+use Prim.Native.Nat.{ℕ, _+_, _≤_}
+use mathlib.Core.Path.{_≡_, refl, sym, ap, ap₂, _∙_}
+use mathlib.Core.List.{List, [], _++_, append-assoc, append-nil}
+use native.Mathlib.Omega.{arith}
+use lib.ListN.{length}
+use lib.Seq.{sets}
+use Rattle.reliability.specs.declared.Figure.{Figure}
+use Rattle.reliability.specs.Networks.{Network as Graph}
+use Rattle.reliability.specs.Rule.{figure}
+use Rattle.plan.specs.declared.Verdict.the-variants.{Accepted}
+use Rattle.plan.specs.Plans.{sizeN, sizeM, planOf}
+use Rattle.plan.proofs.Verdicts.{accepted-means}
+use Rattle.plan.proofs.Accepted.{stands-valid}
+use Rattle.listing.specs.Listings.{limit, sizesLine, figureLine, linkLines, listingBy}
+use Rattle.listing.proofs.Texts.{Remaining, begun, room, goes-on, done}
+use borrow.Author.Needs.{needs}
+use Rattle.listing.proofs.put_plan.Statement.{statement}
+use Rattle.listing.proofs.put_plan.Tie as tie
+use Rattle.listing.proofs.put_plan.Reads as reads
+use Rattle.listing.proofs.put_plan.Lts as lts
+use Rattle.factoring.proofs.work.Reads as work-reads
+use Rattle.listing.proofs.put_figure.Reads as put-figure-reads
+use Rattle.listing.proofs.put_links.Reads as put-links-reads
+use Rattle.listing.proofs.put_sizes.Reads as put-sizes-reads
+use Rattle.plan.proofs.network_of.Reads as network-of-reads
+use Rattle.plan.proofs.sizes_of.Reads as sizes-of-reads
+
+-- what remains of the listing of a plan
+abbrev Left : List ℕ → List ℕ → List ℕ → ℕ → List ℕ → Type 0
+Left plan before l at rest =
+    let whole = listingBy Accepted plan in
+    Remaining l at rest (sets before 0 whole) (0 + length whole) (length before)
+
+fits : (c : tie.Start) → 0 + length (listingBy Accepted (c .args .plan .now)) ≤ length (c .args .text .now)
+fits c = omega (arith, c .pre .1)
+
+sizes-of-requires : tie.Need-sizes-of-requires
+sizes-of-requires c κs = let w = accepted-means (c .before .before .args .plan .now) .0 (c .before .before .pre .0) in omega (arith, w .whole)
+
+network-of-requires : tie.Need-network-of-requires
+network-of-requires c κs = search needs
+
+work-requires : tie.Need-work-requires
+work-requires c κs =
+    let n = c .network-of in
+    (stands-valid (c .before .before .before .before .args .plan .now) (n .result) (n .ensures .0) (c .before .before .before .before .pre .0), omega arith)
+
+-- the three parts
+abbrev sizes : List ℕ → List ℕ
+sizes plan = sizesLine (sizeN plan) (sizeM plan)
+
+abbrev pair : List ℕ → List ℕ
+pair plan = figureLine (figure (planOf plan) limit)
+
+abbrev links : List ℕ → List ℕ
+links plan = linkLines plan 0 (sizeM plan)
+
+sizes-next : (c : tie.After-work) → let b = c .before .before .before .before .before .args .plan .now in let s = c .before .before .sizes-of .result in listingBy Accepted b ≡ sizesLine (s .n) (s .m) ++ (pair b ++ links b)
+sizes-next c =
+    let b = c .before .before .before .before .before .args .plan .now in
+    let e = c .before .before .sizes-of .ensures in
+    append-assoc (sizes b) (pair b) (links b) ∙ ap (λ (s : List ℕ). s ++ (pair b ++ links b)) (sym (ap₂ sizesLine (e .0) (e .1)))
+
+figure-next : (c : tie.After-work) → let b = c .before .before .before .before .before .args .plan .now in pair b ++ links b ≡ figureLine (c .work .result) ++ links b
+figure-next c =
+    let b = c .before .before .before .before .before .args .plan .now in
+    ap (λ (f : Figure). figureLine f ++ links b) (sym (c .work .ensures ∙ ap (λ (g : Graph). figure g limit) (c .before .network-of .ensures .0)))
+
+put-sizes-requires : tie.Need-put-sizes-requires
+put-sizes-requires c κs =
+    let a = c .before .before .before .before .before .before .args in
+    let s = c .before .before .before .sizes-of .result in
+    let h = room (a .text .now) 0 _ _ _ _ (begun (a .text .now) 0 (listingBy Accepted (a .plan .now))) (sizesLine (s .n) (s .m)) _ (sizes-next (c .before)) (fits (c .before .before .before .before .before .before)) in
+    omega (arith, h)
+
+sized : (c : tie.After-put-sizes) → let a = c .before .before .before .before .before .before .before .args in Left (a .plan .now) (a .text .now) (c .put-sizes .last .0) (c .put-sizes .result) (pair (a .plan .now) ++ links (a .plan .now))
+sized c =
+    let w = c .before .before in
+    let a = w .before .before .before .before .before .args in
+    let s = w .before .before .sizes-of .result in
+    goes-on (a .text .now) 0 _ _ _ _ (begun (a .text .now) 0 (listingBy Accepted (a .plan .now))) (sizesLine (s .n) (s .m)) _ (sizes-next w) (c .put-sizes .last .0) (c .put-sizes .result) (c .put-sizes .ensures)
+
+put-figure-requires : tie.Need-put-figure-requires
+put-figure-requires c κs =
+    let q = c .before .before .before in
+    let w = q .before .before in
+    room _ _ _ _ _ _ (sized q) (figureLine (w .work .result)) _ (figure-next w) (fits (w .before .before .before .before .before))
+
+figured : (c : tie.After-put-figure) → let a = c .before .before .before .before .before .before .before .before .before .before .before .args in Left (a .plan .now) (a .text .now) (c .put-figure .last .0) (c .put-figure .result) (links (a .plan .now))
+figured c =
+    let q = c .before .before .before .before in
+    let w = q .before .before in
+    goes-on _ _ _ _ _ _ (sized q) (figureLine (w .work .result)) _ (figure-next w) (c .put-figure .last .0) (c .put-figure .result) (c .put-figure .ensures)
+
+put-links-requires : tie.Need-put-links-requires
+put-links-requires c κs =
+    let q = c .before .before .before in
+    let start = q .before .before .before .before .before .before .before .before .before .before .before in
+    let a = start .args in
+    (start .pre .0, room _ _ _ _ _ _ (figured q) (links (a .plan .now)) [] (sym (append-nil (links (a .plan .now)))) (fits start))
+
+same-length : tie.Need-same-length
+same-length c = search needs
+
+returns : tie.Need-returns
+returns c =
+    let p = c .before .before .put-links in
+    let q = c .before .before .before .before .before .before in
+    let a = q .before .before .before .before .before .before .before .before .before .before .before .args in
+    let r = goes-on _ _ _ _ _ _ (figured q) (links (a .plan .now)) [] (sym (append-nil (links (a .plan .now)))) (p .last .0) (p .result) (p .ensures) in
+    done _ _ _ _ _ _ r refl
+
+pub put-plan-spec : {M : Type 1} → statement M
+put-plan-spec =
+    tie.close
+    (tie.spec
+    sizes-of-requires
+    network-of-requires
+    work-requires
+    put-sizes-requires
+    put-figure-requires
+    put-links-requires
+    same-length
+    returns)

@@ -1,0 +1,85 @@
+-- The listing of a plan: its text, in ASCII.
+use Prim.Native.Nat.{ℕ, zero, suc, _+_, _-_, _/_, _%_}
+use Prim.Native.Char.{code}
+use Prim.Native.String.{String, [] as nothing, _∷_ as _then_}
+use mathlib.Core.Path.{_≡_}
+use mathlib.Core.List.{List, [], _∷_, _++_}
+use mathlib.Core.Bool.{Bool, true, false, cond, _&&_}
+use lib.Dec.{leb, ltb}
+use lib.ListN.{length, getD}
+use lib.Seq.{sets}
+use Rattle.reliability.specs.declared.Link.{Link}
+use Rattle.reliability.specs.declared.Figure.{Figure}
+use Rattle.reliability.specs.Rule.{figure}
+use Rattle.reliability.specs.Comparisons.{importance}
+use Rattle.plan.specs.declared.Cause.{Cause}
+use Rattle.plan.specs.declared.Verdict.{Verdict}
+use Rattle.plan.specs.declared.Verdict.the-variants.{Accepted, Refused}
+use Rattle.plan.specs.Plans.{sizeN, sizeM, verdict, number, namedLink, linkIn, planOf}
+
+-- the default limit, for the figure and for each evaluation behind an importance
+abbrev pub limit : ℕ
+limit = 20000
+
+-- a piece of text written from a place on: what the text is then, and the place behind the piece
+abbrev pub Puts : List ℕ → ℕ → List ℕ → List ℕ → ℕ → Type 0
+Puts before at piece after behind = (after ≡ sets before at piece) × (behind ≡ at + length piece)
+
+-- ---- words and numbers
+
+abbrev pub text : String → List ℕ
+text nothing = []
+text (c then s) = code c ∷ text s
+
+abbrev pub digit : ℕ → ℕ
+digit d = 48 + d
+
+-- a number of at most k digits in decimal, without zeros in front
+unfoldable pub decimalOf : ℕ → ℕ → List ℕ
+decimalOf zero x = []
+decimalOf (suc k) x = elim (ltb x 10) [ true ↦ digit x ∷ [] | false ↦ decimalOf k (x / 10) ++ digit (x % 10) ∷ [] ]
+
+-- a number of 32 bits has at most ten
+abbrev pub decimal : ℕ → List ℕ
+decimal x = decimalOf 10 x
+
+-- ---- lines
+
+abbrev pub isDigit : ℕ → Bool
+isDigit c = leb 48 c && leb c 57
+
+-- in a line's form, the digit d stands for the number at place d, and every other character for itself
+unfoldable pub meant : List ℕ → ℕ → List ℕ
+meant xs c = elim (isDigit c) [ true ↦ decimal (getD xs (c - 48) 0) | false ↦ c ∷ [] ]
+
+unfoldable pub filled : List ℕ → List ℕ → List ℕ
+filled xs [] = []
+filled xs (c ∷ form) = meant xs c ++ filled xs form
+
+abbrev pub sizesLine : ℕ → ℕ → List ℕ
+sizesLine n m = filled (n ∷ m ∷ []) (text "nodes 0 links 1\n")
+
+abbrev pub figureLine : Figure → List ℕ
+figureLine f = filled (f .low ∷ f .high ∷ f .steps ∷ cond (f .finished) 1 0 ∷ []) (text "low 0 high 1 steps 2 finished 3\n")
+
+-- place, both ends, value in units, importance low and high
+abbrev pub linkLine : ℕ → Link → Figure → List ℕ
+linkLine i e f = filled (i ∷ e .a ∷ e .b ∷ e .low ∷ f .low ∷ f .high ∷ []) (text "link 0 1 2 3 4 5\n")
+
+-- the links of a plan from i on, k of them
+unfoldable pub linkLines : List ℕ → ℕ → ℕ → List ℕ
+linkLines plan i zero = []
+linkLines plan i (suc k) = linkLine i (linkIn plan i) (importance (planOf plan) i limit) ++ linkLines plan (suc i) k
+
+-- number and link of a refusal
+abbrev pub refusedLine : Cause → List ℕ
+refusedLine c = filled (number c ∷ namedLink c ∷ []) (text "refused 0 at 1\n")
+
+-- ---- the listing
+
+abbrev pub listingBy : Verdict → List ℕ → List ℕ
+listingBy Accepted plan = sizesLine (sizeN plan) (sizeM plan) ++ figureLine (figure (planOf plan) limit) ++ linkLines plan 0 (sizeM plan)
+listingBy (Refused c) plan = refusedLine c
+
+unfoldable pub listing : List ℕ → List ℕ
+listing plan = listingBy (verdict plan) plan
