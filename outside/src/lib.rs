@@ -7,5 +7,6 @@ pub mod desk;
 pub mod library;
 pub mod plans;
 pub mod random;
+pub mod repository;
 pub mod rule;
 pub mod states;
