@@ -61,10 +61,7 @@ fn engine(plan: &Plan, limit: u64) -> Vec<u8> {
     answer
 }
 
-const VERSIONS: &[(&str, Version)] = &[
-    ("engine", engine),
-    ("straightforward", straightforward),
-];
+const VERSIONS: &[(&str, Version)] = &[("engine", engine), ("straightforward", straightforward)];
 
 /// The nanoseconds of each run of each version, in ascending order, and the splits taken.
 fn measured(plan: &Plan, limit: u64) -> (Vec<Vec<f64>>, f64) {
