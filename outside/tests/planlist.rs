@@ -67,6 +67,12 @@ fn the_mesh() {
     assert_eq!(steps(&text), 20_000);
 }
 
+/// With each link broken it takes all 20,000 steps, and a step more or less shows in the importance.
+#[test]
+fn ten_nodes_each_two_joined() {
+    hold(&Plan::complete(10, S / 2).bytes());
+}
+
 #[test]
 fn small_random_plans() {
     let mut random = Random::new(51);
