@@ -56,3 +56,8 @@ fn hold(name: &str) {
 fn the_readme() {
     hold("README.md");
 }
+
+#[test]
+fn the_reading_guide() {
+    hold("docs/READING.md");
+}

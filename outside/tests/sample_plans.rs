@@ -1,7 +1,7 @@
 //! The sample plans: each text and its bytes, and the script that makes the one of the other.
 
 use outside::calls::{held, Call};
-use outside::plans::{Plan, LENGTH};
+use outside::plans::{Link, Plan, LENGTH};
 use outside::repository::{bytes, path, plan, plans_with};
 use std::fs;
 use std::path::{Path, PathBuf};
@@ -28,7 +28,7 @@ fn meant(text: &str) -> Plan {
             _ => panic!("neither nodes nor link: {line}"),
         };
         let ends = ends.map(|v| number(v) as u8);
-        plan.links.push(outside::plans::Link { ends, value });
+        plan.links.push(Link { ends, value });
     }
     plan
 }
@@ -94,8 +94,31 @@ fn the_script_takes_the_most_that_passes() {
     assert_eq!(held(&Call::Check { plan: &made }, 0), Ok(None));
 }
 
-/// A text, the line that is wrong, and a word of what is said of it.
+/// Links that are wrong in a plan of two nodes, and a part of what is said of each.
+const WRONG_LINKS: [(&str, &str); 18] = [
+    ("", "expected: link"),
+    ("0", "expected: link"),
+    ("0 1", "expected: link"),
+    ("0 1 5 5", "expected: link"),
+    ("0 1 width 5", "expected: link"),
+    ("0 1 length 5 5", "expected: link"),
+    ("0 1 length", "the chance is not"),
+    ("2 1 5", "the first end is not"),
+    ("0 2 5", "the second end is not"),
+    ("0 a 5", "the second end is not"),
+    ("0 1 1000000001", "the chance is not"),
+    ("0 1 0.95", "the chance is not"),
+    ("0 1 -5", "the chance is not"),
+    ("0 1 010", "the chance is not"),
+    ("0 1 18446744073709551617", "the chance is not"),
+    ("0 1 length 512", "the length is not"),
+    ("0 1 length 1e2", "the length is not"),
+    ("0 1 length *", "the length is not"),
+];
+
+/// Texts, the line of each that is wrong, and a part of what is said of it.
 fn wrong_texts() -> Vec<(String, usize, &'static str)> {
+    let many = format!("nodes 2\n{}", "link 0 1 5\n".repeat(65));
     let mut texts = vec![
         (String::new(), 0, "no line with nodes"),
         ("# nothing\n\n".into(), 2, "no line with nodes"),
@@ -104,35 +127,12 @@ fn wrong_texts() -> Vec<(String, usize, &'static str)> {
         ("nodes\n".into(), 1, "expected: nodes N"),
         ("nodes 2 2\n".into(), 1, "expected: nodes N"),
         ("nodes 2\nlinks 0 1 5\n".into(), 2, "links"),
-        (
-            format!("nodes 2\n{}", "link 0 1 5\n".repeat(65)),
-            66,
-            "64 is the most",
-        ),
+        (many, 66, "64 is the most"),
     ];
     for count in ["0", "33", "-1", "x", "02", "2.0", "99999999999999999999"] {
         texts.push((format!("nodes {count}\n"), 1, "nodes is not"));
     }
-    for (link, said) in [
-        ("", "expected: link"),
-        ("0", "expected: link"),
-        ("0 1", "expected: link"),
-        ("0 1 5 5", "expected: link"),
-        ("0 1 width 5", "expected: link"),
-        ("0 1 length 5 5", "expected: link"),
-        ("0 1 length", "the chance is not"),
-        ("2 1 5", "the first end is not"),
-        ("0 2 5", "the second end is not"),
-        ("0 a 5", "the second end is not"),
-        ("0 1 1000000001", "the chance is not"),
-        ("0 1 0.95", "the chance is not"),
-        ("0 1 -5", "the chance is not"),
-        ("0 1 010", "the chance is not"),
-        ("0 1 18446744073709551617", "the chance is not"),
-        ("0 1 length 512", "the length is not"),
-        ("0 1 length 1e2", "the length is not"),
-        ("0 1 length *", "the length is not"),
-    ] {
+    for (link, said) in WRONG_LINKS {
         texts.push((format!("nodes 2\n\nlink {link}\n"), 3, said));
     }
     texts
