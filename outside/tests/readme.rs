@@ -1,7 +1,13 @@
-//! The examples in the documents: each command is run, and what it writes is what stands below it.
+//! The documents: each command in them is run, and what it writes is what stands below it; each file and each name in them
+//! exists.
 
 use outside::repository::{bytes, path};
+use std::collections::HashSet;
+use std::fs;
+use std::path::Path;
 use std::process::Command;
+
+const DOCUMENTS: [&str; 2] = ["README.md", "docs/READING.md"];
 
 struct Example {
     line: usize,
@@ -35,7 +41,7 @@ fn examples(document: &str) -> Vec<Example> {
 }
 
 /// Runs them in order at the root of the repository. The commands of the kit build what is tested, and are not run again.
-fn hold(name: &str) {
+fn run(name: &str) {
     let document = String::from_utf8(bytes(name)).unwrap();
     let examples = examples(&document);
     let runs = |e: &&Example| !e.command.starts_with("rt ");
@@ -53,11 +59,43 @@ fn hold(name: &str) {
 }
 
 #[test]
-fn the_readme() {
-    hold("README.md");
+fn commands_write_what_is_shown() {
+    DOCUMENTS.map(run);
+}
+
+/// Whether a character may stand in a name of the code or of the proofs.
+fn in_a_name(c: char) -> bool {
+    c.is_alphanumeric() || c == '_' || c == '-'
+}
+
+/// Adds the names in a file, or in all files of a folder.
+fn add_names(place: &Path, names: &mut HashSet<String>) {
+    if place.is_dir() {
+        for entry in fs::read_dir(place).unwrap() {
+            add_names(&entry.unwrap().path(), names);
+        }
+    } else {
+        let text = String::from_utf8_lossy(&fs::read(place).unwrap()).into_owned();
+        names.extend(text.split(|c| !in_a_name(c)).map(str::to_owned));
+    }
 }
 
 #[test]
-fn the_reading_guide() {
-    hold("docs/READING.md");
+fn files_and_names_exist() {
+    let mut names = HashSet::new();
+    for place in ["crates", "include", "outside/src", "outside/tests"] {
+        add_names(&path(place), &mut names);
+    }
+    for document in DOCUMENTS {
+        let text = String::from_utf8(bytes(document)).unwrap();
+        for word in text.split('`').skip(1).step_by(2) {
+            let known = match word {
+                _ if word.contains("NAME") => true,
+                _ if word.contains('/') => path(word).exists(),
+                _ if word.chars().all(in_a_name) => names.contains(word),
+                _ => true,
+            };
+            assert!(known, "{document}: {word}");
+        }
+    }
 }
