@@ -1,9 +1,6 @@
 /* Asks a question of each of the planning desk's four calls and prints the answers. */
 
-#include "plandesk.h"
-
-#include <inttypes.h>
-#include <stdio.h>
+#include "print.h"
 
 /* Two nodes, and two links between them of 0.9 and 0.8. */
 static const uint8_t two_links[] = {
@@ -26,21 +23,6 @@ static const uint8_t four_nodes[] = {
     0x00, 0x65, 0xcd, 0x1d, 0x00, 0x65, 0xcd, 0x1d, 0x00, 0x65, 0xcd, 0x1d,
     0x00, 0x65, 0xcd, 0x1d, 0x00, 0x65, 0xcd, 0x1d, 0x00, 0x65, 0xcd, 0x1d,
 };
-
-static uint32_t number(const uint8_t *from)
-{
-    return from[0] | (uint32_t)from[1] << 8 | (uint32_t)from[2] << 16 | (uint32_t)from[3] << 24;
-}
-
-static void print(const char *question, uint64_t refusal, const uint8_t *answer)
-{
-    if (refusal != 0) {
-        printf("%s: refused %" PRIu64 "\n", question, refusal);
-        return;
-    }
-    printf("%s: low %" PRId32 " high %" PRId32 " steps %" PRIu32 " finished %" PRIu32 "\n", question,
-           (int32_t)number(answer), (int32_t)number(answer + 4), number(answer + 8), number(answer + 12));
-}
 
 int main(void)
 {

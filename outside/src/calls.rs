@@ -131,6 +131,17 @@ pub fn answer_bytes(answer: &Answer) -> Vec<u8> {
         .collect()
 }
 
+/// The answer that the bytes hold.
+pub fn answer_of(bytes: &[u8; ANSWER]) -> Answer {
+    let word = |i: usize| number(&bytes[i..i + 4]);
+    Answer {
+        low: (word(0) as i32).into(),
+        high: (word(4) as i32).into(),
+        steps: word(8).into(),
+        finished: word(12) == 1,
+    }
+}
+
 /// The number that a call returns with that outcome, and what it leaves of the buffer.
 pub fn left(outcome: &Outcome, buffer: &[u8]) -> (u64, Vec<u8>) {
     match outcome {

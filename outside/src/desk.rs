@@ -1,6 +1,6 @@
 //! The calculator's four calls, through their C interface.
 
-use crate::calls::{left, Call, Outcome};
+use crate::calls::{answer_of, left, Call, Outcome, ANSWER};
 
 mod c {
     extern "C" {
@@ -47,6 +47,16 @@ pub fn made(call: &Call, answer: &mut [u8]) -> u64 {
                 c::difference(a.as_ptr(), a.len(), b.as_ptr(), b.len(), limit, to, room)
             }
         }
+    }
+}
+
+/// What the call answers.
+pub fn answered(call: &Call) -> Outcome {
+    let mut answer = [0; ANSWER];
+    match (made(call, &mut answer), call) {
+        (0, Call::Check { .. }) => Ok(None),
+        (0, _) => Ok(Some(answer_of(&answer))),
+        (refusal, _) => Err(refusal),
     }
 }
 

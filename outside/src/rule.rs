@@ -2,6 +2,7 @@
 
 use crate::arithmetic::{factor, parallel, product, series, split, Side, S, SIDES};
 use crate::plans::Plan;
+use std::fmt::{self, Display, Formatter};
 
 #[derive(Clone, Copy, Debug)]
 struct Link {
@@ -251,6 +252,17 @@ impl From<Figure> for Answer {
             steps: figure.steps,
             finished: figure.finished,
         }
+    }
+}
+
+impl Display for Answer {
+    fn fmt(&self, to: &mut Formatter) -> fmt::Result {
+        let (low, high, steps) = (self.low, self.high, self.steps);
+        let finished = u8::from(self.finished);
+        write!(
+            to,
+            "low {low} high {high} steps {steps} finished {finished}"
+        )
     }
 }
 

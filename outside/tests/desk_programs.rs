@@ -1,60 +1,18 @@
-//! Programs in C that link the library: the example, and a run of damaged plans under a memory checker.
+//! Programs in C that link the library, run with plans under a memory checker.
 
 use outside::arithmetic::S;
 use outside::calls::{left, Call};
 use outside::desk::pattern;
 use outside::plans::{damaged, Plan};
+use outside::programs::{compiled, ran};
 use outside::random::Random;
 use std::fs::{self, File};
 use std::path::{Path, PathBuf};
-use std::process::{Command, Output};
-
-/// A file of the repository.
-fn path(name: &str) -> PathBuf {
-    Path::new(env!("CARGO_MANIFEST_DIR")).join("..").join(name)
-}
+use std::process::Command;
 
 /// A file of this run.
 fn written(name: &str) -> PathBuf {
     Path::new(env!("CARGO_TARGET_TMPDIR")).join(name)
-}
-
-fn ran(command: &mut Command) -> Output {
-    let output = command.output();
-    let output = output.unwrap_or_else(|error| panic!("{command:?}: {error}"));
-    let said = String::from_utf8_lossy(&output.stderr);
-    assert!(
-        output.status.success() && said.is_empty(),
-        "{command:?}: {said}"
-    );
-    output
-}
-
-fn compiled(source: &str, name: &str) -> PathBuf {
-    let program = written(name);
-    let flags = "-std=c11 -O1 -g -Wall -Wextra -Wpedantic -Werror";
-    let mut gcc = Command::new("gcc");
-    gcc.args(flags.split(' ')).arg("-I").arg(path("include"));
-    gcc.arg("-o").arg(&program).arg(path(source));
-    ran(gcc.arg(path("target/staticlib/libdesk.a")));
-    program
-}
-
-#[test]
-fn the_example() {
-    let expected = "\
-check, two links: 0
-check, a byte short: 4
-figure, two links: low 980000000 high 980000000 steps 0 finished 1
-figure, four nodes: low 593749999 high 593750001 steps 1 finished 1
-figure, four nodes, no step: low 0 high 1000000000 steps 0 finished 0
-figure, a step too many: refused 7
-importance of link 0: low 200000000 high 200000000 steps 0 finished 1
-importance of link 2: refused 8
-one link less two links: low -80000000 high -80000000 steps 0 finished 1
-";
-    let output = ran(&mut Command::new(compiled("examples/desk.c", "desk")));
-    assert_eq!(String::from_utf8(output.stdout).unwrap(), expected);
 }
 
 /// A call as `c/calls.c` reads it.
@@ -102,7 +60,7 @@ fn checked(calls: &[(Call, usize)], name: &str) {
     fs::write(&file, input).unwrap();
     let mut valgrind = Command::new("valgrind");
     valgrind.args(["--quiet", "--error-exitcode=1"]);
-    valgrind.arg(compiled("outside/c/calls.c", name));
+    valgrind.arg(compiled("outside/c/calls.c", &written(name)));
     let output = ran(valgrind.stdin(File::open(file).unwrap())).stdout;
     let mut rest = &output[..];
     for (call, room) in calls {

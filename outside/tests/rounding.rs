@@ -110,6 +110,40 @@ fn triangle_of_halves() {
     assert_eq!(SIDES.map(figure), [499_999_999, 500_000_001]);
 }
 
+/// Four nodes, each two joined by a half, step by step as in docs/READING.md: the broken branch, and the split with the sound
+/// one (plan P10).
+#[test]
+fn four_nodes_of_halves() {
+    let half = S / 2;
+    let numbers = |side| {
+        let third = library::series(side, half, half);
+        let beside = library::parallel(side, third, half);
+        let last = library::parallel(side, beside, third);
+        let factor = library::factor(side, half, half);
+        let inner = library::product(side, factor, last);
+        let broken = library::product(side, factor, inner);
+        let figure = library::split(side, half, 750_000_000, broken);
+        [third, beside, last, inner, broken, figure]
+    };
+    let low = [
+        333_333_333,
+        666_666_666,
+        777_777_777,
+        583_333_332,
+        437_499_999,
+        593_749_999,
+    ];
+    let high = [
+        333_333_334,
+        666_666_667,
+        777_777_779,
+        583_333_335,
+        437_500_002,
+        593_750_001,
+    ];
+    assert_eq!(SIDES.map(numbers), [low, high]);
+}
+
 #[test]
 fn division_at_its_edges() {
     let unit = u64::from(S);

@@ -1,0 +1,68 @@
+//! The listing of a plan, made of what the calls answer, and the program that writes it.
+
+use crate::calls::{read, Call, Outcome};
+use crate::repository::path;
+use crate::rule::Answer;
+use std::io::{ErrorKind, Write};
+use std::process::{Command, Stdio};
+use std::thread::sleep;
+use std::time::Duration;
+
+/// The limit of the figure and of each evaluation behind an importance.
+const LIMIT: u64 = 20_000;
+
+/// The text for a plan file, each call answered by `asked`.
+pub fn text(plan: &[u8], asked: impl Fn(&Call) -> Outcome) -> String {
+    let limit = LIMIT;
+    let figure = match asked(&Call::Figure { plan, limit }) {
+        Err(number) => return format!("refused {} at {}\n", number % 256, number / 256),
+        Ok(answer) => answer.unwrap(),
+    };
+    let data = read(plan).unwrap();
+    let (nodes, links) = (data.nodes, data.links.len());
+    let mut text = format!("nodes {nodes} links {links}\n{figure}\n");
+    for (i, link) in data.links.iter().enumerate() {
+        let place = i as u64;
+        let importance = asked(&Call::Importance { plan, place, limit });
+        let Answer { low, high, .. } = importance.unwrap().unwrap();
+        let ([a, b], units) = (link.ends, link.units());
+        text.push_str(&format!("link {i} {a} {b} {units} {low} {high}\n"));
+    }
+    text
+}
+
+/// The text by the rule.
+pub fn by_the_rule(plan: &[u8]) -> String {
+    text(plan, |call| call.outcome(crate::calls::ANSWER))
+}
+
+/// The text from the answers of the library's calls.
+pub fn by_the_calls(plan: &[u8]) -> String {
+    text(plan, crate::desk::answered)
+}
+
+/// What `planlist` writes when the pieces come in through its standard input, one after the other. It may have stopped
+/// reading before the last.
+pub fn written(pieces: &[&[u8]]) -> String {
+    let program = path("target/bin/planlist");
+    let missing = "target/bin/planlist is missing: rt check planlist writes it";
+    assert!(program.exists(), "{missing}");
+    let mut command = Command::new(program);
+    command.stdin(Stdio::piped()).stdout(Stdio::piped());
+    let mut run = command.stderr(Stdio::piped()).spawn().unwrap();
+    let mut input = run.stdin.take().unwrap();
+    for (i, piece) in pieces.iter().enumerate() {
+        if i > 0 {
+            sleep(Duration::from_millis(20));
+        }
+        match input.write_all(piece).and_then(|()| input.flush()) {
+            Err(error) if error.kind() != ErrorKind::BrokenPipe => panic!("{error}"),
+            _ => (),
+        }
+    }
+    drop(input);
+    let output = run.wait_with_output().unwrap();
+    assert!(output.status.success(), "{:?}", output.status);
+    assert_eq!(output.stderr, b"");
+    String::from_utf8(output.stdout).unwrap()
+}

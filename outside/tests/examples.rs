@@ -1,0 +1,129 @@
+//! The examples in C: they compile without a warning, and the comparison of two plans prints what the rule gives.
+
+use outside::arithmetic::S;
+use outside::calls::Call;
+use outside::plans::Plan;
+use outside::programs::compiled;
+use outside::repository::{path, plan};
+use std::fs;
+use std::path::{Path, PathBuf};
+use std::process::Command;
+
+/// A file of this run.
+fn written(name: &str) -> PathBuf {
+    Path::new(env!("CARGO_TARGET_TMPDIR")).join(name)
+}
+
+fn difference(name: &str) -> PathBuf {
+    compiled("examples/difference.c", &written(name)).to_owned()
+}
+
+/// The exit status, and what was written to standard output and to standard error.
+fn run(program: &Path, words: &[&Path]) -> (i32, String, String) {
+    let output = Command::new(program).args(words).output().unwrap();
+    let text = |bytes| String::from_utf8(bytes).unwrap();
+    let status = output.status.code().unwrap();
+    (status, text(output.stdout), text(output.stderr))
+}
+
+/// The line that stands for what a call answers.
+fn line(name: &str, call: Call) -> String {
+    match call.outcome(16) {
+        Ok(answer) => format!("{name}: {}\n", answer.unwrap()),
+        Err(number) if [5, 6].contains(&(number % 256 % 20)) => {
+            format!(
+                "{name}: refused {} at link {}\n",
+                number % 256,
+                number / 256
+            )
+        }
+        Err(number) => format!("{name}: refused {number}\n"),
+    }
+}
+
+fn lines(a: &[u8], b: &[u8], limit: u64) -> String {
+    [
+        line("A", Call::Figure { plan: a, limit }),
+        line("B", Call::Figure { plan: b, limit }),
+        line("A - B", Call::Difference { a, b, limit }),
+    ]
+    .concat()
+}
+
+#[test]
+fn the_calls() {
+    compiled("examples/desk.c", &written("desk"));
+}
+
+/// Plan A with two crossings, plan B with one: no answer within a few steps, and then one.
+#[test]
+fn the_second_crossing() {
+    let program = difference("crossings");
+    let names = ["two-crossings", "one-crossing"];
+    let [a, b] = names.map(|name| path(&format!("plans/{name}.plan")));
+    let [first, second] = names.map(plan);
+    for limit in [0, 5, 43, 54, 55, 1_000_000, 1_000_001] {
+        let word = limit.to_string();
+        let (status, text, said) = run(&program, &[&a, &b, Path::new(&word)]);
+        assert_eq!(text, lines(&first, &second, limit));
+        assert_eq!((status, &said[..]), (i32::from(limit > 1_000_000), ""));
+    }
+    let without = run(&program, &[&a, &b]);
+    assert_eq!(without, (0, lines(&first, &second, 20_000), String::new()));
+    let limit = 5;
+    let (a, b) = (&first, &second);
+    let early = Call::Difference { a, b, limit }
+        .outcome(16)
+        .unwrap()
+        .unwrap();
+    assert!(early.low < 0 && 0 < early.high && !early.finished);
+}
+
+#[test]
+fn refused_plans() {
+    let program = difference("refusals");
+    let good = Plan::alike(3, S, &[[0, 1], [1, 2], [0, 2]]);
+    let mut end = good.clone();
+    end.links[0].ends[1] = 3;
+    let mut value = good.clone();
+    value.links[2].value = S + 1;
+    let long = [&good.bytes()[..], &[0; 400]].concat();
+    let files = [good.bytes(), end.bytes(), value.bytes(), long, vec![]];
+    let names: Vec<PathBuf> = (0..files.len())
+        .map(|i| written(&format!("plan{i}")))
+        .collect();
+    for (file, name) in files.iter().zip(&names) {
+        fs::write(name, file).unwrap();
+    }
+    for (a, first) in files.iter().zip(&names) {
+        for (b, second) in files.iter().zip(&names) {
+            let (status, text, said) = run(&program, &[first, second]);
+            let fine = a == &files[0] && b == &files[0];
+            assert_eq!(text, lines(a, b, 20_000));
+            assert_eq!((status, &said[..]), (i32::from(!fine), ""));
+        }
+    }
+}
+
+#[test]
+fn wrong_words() {
+    let program = difference("words");
+    let plan = path("plans/example.plan");
+    let missing = written("no-such-plan");
+    let (missing, folder) = (&missing, &path("plans"));
+    let wrong: [&[&Path]; 8] = [
+        &[],
+        &[&plan],
+        &[&plan, missing],
+        &[missing, &plan],
+        &[&plan, folder],
+        &[&plan, &plan, Path::new("-1")],
+        &[&plan, &plan, Path::new("99999999999999999999")],
+        &[&plan, &plan, Path::new("5"), Path::new("5")],
+    ];
+    for words in wrong {
+        let (status, text, said) = run(&program, words);
+        assert_eq!((status, &text[..]), (2, ""), "{words:?}");
+        assert_eq!(said.lines().count(), 1, "{words:?}");
+    }
+}
