@@ -1,7 +1,10 @@
 use native.Mathlib.Omega.{arith}
 use Rattle.listing.proofs.Texts.{length-one, length-more, puts-one, puts-more}
 use borrow.Author.Needs.{needs}
-use Prim.Native.Nat.{ℕ, _<_}
+use Prim.Native.Nat.{ℕ, _+_, _<_}
+use mathlib.Core.Path.{_≡_}
+use lib.ListN.{length}
+use Rattle.listing.specs.Listings.{decimal}
 use borrow.Fn.Kinds.{In}
 use borrow.Fn.PlainCycle.{Measures, is, falls, and}
 use Rattle.listing.proofs.put_decimal.Reads as put-decimal
@@ -21,117 +24,81 @@ abbrev put-decimal-below : ℕ → In 1 put-decimal-kinds.ps
 put-decimal-below t =
     and 1 put-decimal-kinds.ps (falls 1 put-decimal-kinds.ps _<_ μ-put-decimal t) put-decimal.Pre
 
-put-decimal-cast-text : (t : ℕ) → put-decimal-lts.Need-cast-text (
-  put-decimal-below t,
-  put-decimal.Post,
-) (put-decimal-at t) put-decimal.Post
-put-decimal-cast-text t c = search needs
+abbrev claims : ℕ → put-decimal-lts.Claims
+claims t = (put-decimal-below t, put-decimal.Post)
 
-put-decimal-add-text : (t : ℕ) → put-decimal-lts.Need-add-text (
-  put-decimal-below t,
-  put-decimal.Post,
-) (put-decimal-at t) put-decimal.Post
-put-decimal-add-text t c = search needs
+module _ (t : ℕ) where
+  cast-text : put-decimal-lts.Need-cast-text (claims t) (put-decimal-at t) put-decimal.Post
+  cast-text c = search needs
 
-put-decimal-slice-write-text : (t : ℕ) → put-decimal-lts.Need-slice-write-text (
-  put-decimal-below t,
-  put-decimal.Post,
-) (put-decimal-at t) put-decimal.Post
-put-decimal-slice-write-text t c =
-    let e = length-one (c .before .before .args .x) (c .if1 .taken) in
-    omega (arith, e)
+  add-text : put-decimal-lts.Need-add-text (claims t) (put-decimal-at t) put-decimal.Post
+  add-text c = search needs
 
-put-decimal-add-result : (t : ℕ) → put-decimal-lts.Need-add-result (
-  put-decimal-below t,
-  put-decimal.Post,
-) (put-decimal-at t) put-decimal.Post
-put-decimal-add-result t c = search needs
+  slice-write-text : put-decimal-lts.Need-slice-write-text (claims t) (put-decimal-at t) put-decimal.Post
+  slice-write-text c =
+      let e = length-one (c .before .before .args .x) (c .if1 .taken) in
+      omega (arith, e)
 
-put-decimal-same-length : (t : ℕ) → put-decimal-lts.Need-same-length (
-  put-decimal-below t,
-  put-decimal.Post,
-) (put-decimal-at t) put-decimal.Post
-put-decimal-same-length t c = search needs
+  add-result : put-decimal-lts.Need-add-result (claims t) (put-decimal-at t) put-decimal.Post
+  add-result c = search needs
 
-put-decimal-returns : (t : ℕ) → put-decimal-lts.Need-returns (
-  put-decimal-below t,
-  put-decimal.Post,
-) (put-decimal-at t) put-decimal.Post
-put-decimal-returns t c = puts-one (c .before .before .args .text .now) (c .before .before .args .at) (c .before .before .args .x) (c .if1 .taken)
+  same-length : put-decimal-lts.Need-same-length (claims t) (put-decimal-at t) put-decimal.Post
+  same-length c = search needs
 
-put-decimal-put-decimal-requires : (t : ℕ) → put-decimal-lts.Need-put-decimal-requires (
-  put-decimal-below t,
-  put-decimal.Post,
-) (put-decimal-at t) put-decimal.Post
-put-decimal-put-decimal-requires t c κs =
-    let a = c .before .before .before .args in
-    let e = length-more (a .x) (c .before .if1 .left) (search needs) in
-    (omega (arith, c .before .before .before .pre .0), omega (arith, e, c .before .before .before .pre .1))
+  returns : put-decimal-lts.Need-returns (claims t) (put-decimal-at t) put-decimal.Post
+  returns c = puts-one (c .before .before .args .text .now) (c .before .before .args .at) (c .before .before .args .x) (c .if1 .taken)
 
-put-decimal-cast-text-2 : (t : ℕ) → put-decimal-lts.Need-cast-text-2 (
-  put-decimal-below t,
-  put-decimal.Post,
-) (put-decimal-at t) put-decimal.Post
-put-decimal-cast-text-2 t c = search needs
+  put-decimal-requires : put-decimal-lts.Need-put-decimal-requires (claims t) (put-decimal-at t) put-decimal.Post
+  put-decimal-requires c κs =
+      let a = c .before .before .before .args in
+      let e = length-more (a .x) (c .before .if1 .left) (search needs) in
+      (omega (arith, c .before .before .before .pre .0), omega (arith, e, c .before .before .before .pre .1))
 
-put-decimal-add-text-2 : (t : ℕ) → put-decimal-lts.Need-add-text-2 (
-  put-decimal-below t,
-  put-decimal.Post,
-) (put-decimal-at t) put-decimal.Post
-put-decimal-add-text-2 t c = search needs
+  cast-text-2 : put-decimal-lts.Need-cast-text-2 (claims t) (put-decimal-at t) put-decimal.Post
+  cast-text-2 c = search needs
 
-put-decimal-slice-write-text-2 : (t : ℕ) → put-decimal-lts.Need-slice-write-text-2 (
-  put-decimal-below t,
-  put-decimal.Post,
-) (put-decimal-at t) put-decimal.Post
-put-decimal-slice-write-text-2 t c =
-    let a = c .before .before .before .before .before .before .args in
-    let p = c .before .before .put-decimal in
-    let e = length-more (a .x) (c .before .before .before .before .if1 .left) (search needs) in
-    omega (arith, e, p .ensures .1, p .kept .0, c .before .before .before .before .before .before .pre .1)
+  add-text-2 : put-decimal-lts.Need-add-text-2 (claims t) (put-decimal-at t) put-decimal.Post
+  add-text-2 c = search needs
 
-put-decimal-add-result-2 : (t : ℕ) → put-decimal-lts.Need-add-result-2 (
-  put-decimal-below t,
-  put-decimal.Post,
-) (put-decimal-at t) put-decimal.Post
-put-decimal-add-result-2 t c =
-    let a = c .before .before .before .before .before .before .args in
-    let p = c .before .before .put-decimal in
-    let e = length-more (a .x) (c .before .before .before .before .if1 .left) (search needs) in
-    record { fits = omega (arith, e, p .ensures .1, c .before .before .before .before .before .before .pre .1) }
+  -- the number is longer than its front by one digit
+  longer : (q : put-decimal-lts.After-put-decimal (claims t) (put-decimal-at t) put-decimal.Post) → q .put-decimal .result + 1 ≡ q .before .before .before .before .args .at + length (decimal (q .before .before .before .before .args .x))
+  longer q =
+      let e = length-more (q .before .before .before .before .args .x) (q .before .before .if1 .left) (search needs) in
+      omega (arith, e, q .put-decimal .ensures .1)
 
-put-decimal-same-length-2 : (t : ℕ) → put-decimal-lts.Need-same-length-2 (
-  put-decimal-below t,
-  put-decimal.Post,
-) (put-decimal-at t) put-decimal.Post
-put-decimal-same-length-2 t c = search needs
+  slice-write-text-2 : put-decimal-lts.Need-slice-write-text-2 (claims t) (put-decimal-at t) put-decimal.Post
+  slice-write-text-2 c =
+      let q = c .before .before in
+      omega (arith, longer q, q .put-decimal .kept .0, q .before .before .before .before .pre .1)
 
-put-decimal-returns-2 : (t : ℕ) → put-decimal-lts.Need-returns-2 (
-  put-decimal-below t,
-  put-decimal.Post,
-) (put-decimal-at t) put-decimal.Post
-put-decimal-returns-2 t c =
-    let a = c .before .before .before .before .before .before .args in
-    let p = c .before .before .put-decimal in
-    puts-more (a .text .now) (a .at) (a .x) (p .last .0) (p .result) (c .before .before .before .before .if1 .left) (search needs) (p .ensures)
+  add-result-2 : put-decimal-lts.Need-add-result-2 (claims t) (put-decimal-at t) put-decimal.Post
+  add-result-2 c =
+      let q = c .before .before in
+      record { fits = omega (arith, longer q, q .before .before .before .before .pre .1) }
+
+  same-length-2 : put-decimal-lts.Need-same-length-2 (claims t) (put-decimal-at t) put-decimal.Post
+  same-length-2 c = search needs
+
+  returns-2 : put-decimal-lts.Need-returns-2 (claims t) (put-decimal-at t) put-decimal.Post
+  returns-2 c =
+      let a = c .before .before .before .before .before .before .args in
+      let p = c .before .before .put-decimal in
+      puts-more (a .text .now) (a .at) (a .x) (p .last .0) (p .result) (c .before .before .before .before .if1 .left) (search needs) (p .ensures)
 
 pub +put-decimal-spec : {M : Type 1} → statement M
-+put-decimal-spec = close μ-put-decimal λ t. put-decimal-lts.spec (
-  put-decimal-below t,
-  put-decimal.Post,
-)
++put-decimal-spec = close μ-put-decimal λ t. put-decimal-lts.spec (claims t)
     (put-decimal-at t)
     put-decimal.Post
-    (put-decimal-cast-text t)
-    (put-decimal-add-text t)
-    (put-decimal-slice-write-text t)
-    (put-decimal-add-result t)
-    (put-decimal-same-length t)
-    (put-decimal-returns t)
-    (put-decimal-put-decimal-requires t)
-    (put-decimal-cast-text-2 t)
-    (put-decimal-add-text-2 t)
-    (put-decimal-slice-write-text-2 t)
-    (put-decimal-add-result-2 t)
-    (put-decimal-same-length-2 t)
-    (put-decimal-returns-2 t)
+    (cast-text t)
+    (add-text t)
+    (slice-write-text t)
+    (add-result t)
+    (same-length t)
+    (returns t)
+    (put-decimal-requires t)
+    (cast-text-2 t)
+    (add-text-2 t)
+    (slice-write-text-2 t)
+    (add-result-2 t)
+    (same-length-2 t)
+    (returns-2 t)
