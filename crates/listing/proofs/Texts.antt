@@ -54,15 +54,15 @@ digits-none : (x : ℕ) → decimalOf 0 x ≡ []
 unfolding decimalOf
 digits-none x = refl
 
-digits-one : (k x : ℕ) → x < 10 → decimalOf (suc k) x ≡ digit x ∷ []
+pub digits-one : (k x : ℕ) → x < 10 → decimalOf (suc k) x ≡ digit x ∷ []
 unfolding decimalOf
 digits-one k x h = ap (λ t. digitsBy t k x) (lt-ltb x 10 h)
 
-digits-more : (k x : ℕ) → 10 ≤ x → decimalOf (suc k) x ≡ decimalOf k (x / 10) ++ digit (x % 10) ∷ []
+pub digits-more : (k x : ℕ) → 10 ≤ x → decimalOf (suc k) x ≡ decimalOf k (x / 10) ++ digit (x % 10) ∷ []
 unfolding decimalOf
 digits-more k x h = ap (λ t. digitsBy t k x) (le-ltb x 10 h)
 
-tenth : (k x : ℕ) → x < 10 ^ suc k → x / 10 < 10 ^ k
+pub tenth : (k x : ℕ) → x < 10 ^ suc k → x / 10 < 10 ^ k
 tenth k x h =
     let e : x < 10 ^ k * 10 = omega (arith, pow-step 10 k, h) in
     let ten : 0 < 10 = omega arith in
