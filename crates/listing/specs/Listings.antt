@@ -27,14 +27,16 @@ Puts before at piece after behind = (after ≡ sets before at piece) × (behind 
 
 -- ---- words and numbers
 
+-- the codes of the characters
 abbrev pub text : String → List ℕ
 text nothing = []
 text (c then s) = code c ∷ text s
 
+-- the character of a digit: 48 is that of 0
 abbrev pub digit : ℕ → ℕ
 digit d = 48 + d
 
--- a number of at most k digits in decimal, without zeros in front
+-- a number of at most k digits in decimal, without zeros in front (decimal-spells in proofs/Theorems.antt: its digits spell it)
 unfoldable pub decimalOf : ℕ → ℕ → List ℕ
 decimalOf zero x = []
 decimalOf (suc k) x = elim (ltb x 10) [ true ↦ digit x ∷ [] | false ↦ decimalOf k (x / 10) ++ digit (x % 10) ∷ [] ]
@@ -45,6 +47,7 @@ decimal x = decimalOf 10 x
 
 -- ---- lines
 
+-- 0 to 9
 abbrev pub isDigit : ℕ → Bool
 isDigit c = leb 48 c && leb c 57
 
@@ -52,6 +55,7 @@ isDigit c = leb 48 c && leb c 57
 unfoldable pub meant : List ℕ → ℕ → List ℕ
 meant xs c = elim (isDigit c) [ true ↦ decimal (getD xs (c - 48) 0) | false ↦ c ∷ [] ]
 
+-- a line of some form
 unfoldable pub filled : List ℕ → List ℕ → List ℕ
 filled xs [] = []
 filled xs (c ∷ form) = meant xs c ++ filled xs form
