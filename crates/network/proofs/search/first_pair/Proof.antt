@@ -40,25 +40,25 @@ element-copy-out-meet : tie.Need-element-copy-out-meet Inv-loop μ-loop
 element-copy-out-meet c = lowest-below _ _ (low (c .before))
 
 cast-meet : tie.Need-cast-meet Inv-loop μ-loop
-cast-meet c = record { fits = omega (arith, inside (c .before .before) .0) }
+cast-meet c = record { fits = omega (arith, inside (c .before .before)) }
 
 mul-meet : tie.Need-mul-meet Inv-loop μ-loop
-mul-meet c = record { fits = omega (arith, inside (c .before .before) .0) }
+mul-meet c = record { fits = omega (arith, inside (c .before .before)) }
 
 element-copy-out-meet-2 : tie.Need-element-copy-out-meet-2 Inv-loop μ-loop
-element-copy-out-meet-2 c = inside (c .before .before) .0
+element-copy-out-meet-2 c = omega (arith, inside (c .before .before))
 
 element-copy-out-meet-3 : tie.Need-element-copy-out-meet-3 Inv-loop μ-loop
 element-copy-out-meet-3 c = lowest-below _ _ (low (c .before .before .before))
 
 cast-meet-2 : tie.Need-cast-meet-2 Inv-loop μ-loop
-cast-meet-2 c = record { fits = omega (arith, inside (c .before .before .before .before) .1) }
+cast-meet-2 c = record { fits = omega (arith, inside (c .before .before .before .before)) }
 
 mul-meet-2 : tie.Need-mul-meet-2 Inv-loop μ-loop
-mul-meet-2 c = record { fits = omega (arith, inside (c .before .before .before .before) .1) }
+mul-meet-2 c = record { fits = omega (arith, inside (c .before .before .before .before)) }
 
 element-copy-out-meet-4 : tie.Need-element-copy-out-meet-4 Inv-loop μ-loop
-element-copy-out-meet-4 c = inside (c .before .before .before .before) .1
+element-copy-out-meet-4 c = omega (arith, inside (c .before .before .before .before))
 
 meet-requires : tie.Need-meet-requires Inv-loop μ-loop
 meet-requires c κs = search needs

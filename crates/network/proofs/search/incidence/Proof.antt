@@ -39,43 +39,43 @@ element-copy-out-x : tie.Need-element-copy-out-x Inv-loop μ-loop
 element-copy-out-x c = lowest-below _ _ (low (c .before))
 
 cast-x : tie.Need-cast-x Inv-loop μ-loop
-cast-x c = record { fits = omega (arith, inside (c .before .before) .0) }
+cast-x c = record { fits = omega (arith, inside (c .before .before)) }
 
 element-copy-out-y : tie.Need-element-copy-out-y Inv-loop μ-loop
 element-copy-out-y c = lowest-below _ _ (low (c .before .before))
 
 cast-y : tie.Need-cast-y Inv-loop μ-loop
-cast-y c = record { fits = omega (arith, inside (c .before .before .before) .1) }
+cast-y c = record { fits = omega (arith, inside (c .before .before .before)) }
 
 mul-with : tie.Need-mul-with Inv-loop μ-loop
-mul-with c = record { fits = omega (arith, inside (c .before .before .before) .0) }
+mul-with c = record { fits = omega (arith, inside (c .before .before .before)) }
 
 array-read-with : tie.Need-array-read-with Inv-loop μ-loop
-array-read-with c = inside (c .before .before .before) .0
+array-read-with c = omega (arith, inside (c .before .before .before))
 
 with-requires : tie.Need-with-requires Inv-loop μ-loop
 with-requires c κs = lowest-below _ _ (low (c .before .before .before))
 
 mul-at : tie.Need-mul-at Inv-loop μ-loop
-mul-at c = record { fits = omega (arith, inside (c .before .before .before .before) .0) }
+mul-at c = record { fits = omega (arith, inside (c .before .before .before .before)) }
 
 array-write-at : tie.Need-array-write-at Inv-loop μ-loop
-array-write-at c = inside (c .before .before .before .before) .0
+array-write-at c = omega (arith, inside (c .before .before .before .before))
 
 mul-with-2 : tie.Need-mul-with-2 Inv-loop μ-loop
-mul-with-2 c = record { fits = omega (arith, inside (c .before .before .before .before) .1) }
+mul-with-2 c = record { fits = omega (arith, inside (c .before .before .before .before)) }
 
 array-read-with-2 : tie.Need-array-read-with-2 Inv-loop μ-loop
-array-read-with-2 c = inside (c .before .before .before .before) .1
+array-read-with-2 c = omega (arith, inside (c .before .before .before .before))
 
 with-requires-2 : tie.Need-with-requires-2 Inv-loop μ-loop
 with-requires-2 c κs = lowest-below _ _ (low (c .before .before .before .before))
 
 mul-at-2 : tie.Need-mul-at-2 Inv-loop μ-loop
-mul-at-2 c = record { fits = omega (arith, inside (c .before .before .before .before .before) .1) }
+mul-at-2 c = record { fits = omega (arith, inside (c .before .before .before .before .before)) }
 
 array-write-at-2 : tie.Need-array-write-at-2 Inv-loop μ-loop
-array-write-at-2 c = inside (c .before .before .before .before .before) .1
+array-write-at-2 c = omega (arith, inside (c .before .before .before .before .before))
 
 loop-less : tie.Need-loop-less Inv-loop μ-loop
 loop-less c = omega (arith, rest-count _ _ (low (c .before .before .before .before .before)) _ (c .before .before .before .before .without-lowest .ensures))
