@@ -6,13 +6,13 @@ use reliability::Link;
 use reliability::Step;
 use rounding::Direction;
 ghost use mathlib.Core.Path.{_≡_};
-ghost use mathlib.Core.Bool.{_&&_};
+ghost use mathlib.Core.Bool.{true, _&&_};
 ghost use Prim.Native.Nat.{_+_, _-_, _^_, _≤_, _<_};
 ghost use lib.IntN.{pos, _-ℤ_};
 ghost use Rattle.rounding.specs.Rounding.{S, factor};
 ghost use Rattle.reliability.specs.Networks.{Valid, value};
 ghost use Rattle.reliability.specs.Exact.{Equal};
-ghost use Rattle.reliability.specs.Rule.{times, blend, figure};
+ghost use Rattle.reliability.specs.Rule.{bounded, times, blend, unfinished, figure};
 ghost use Rattle.reliability.specs.Comparisons.{lessened, minus, importance, difference};
 ghost use Rattle.network.specs.Places.{networkOf, indexOf, Used};
 ghost use Rattle.factoring.specs.Sides.{sides};
@@ -79,24 +79,38 @@ fn blend(e: Link, s: Figure, t: Figure) -> Figure
     }
 }
 
+// The figure where nothing is left to work, of value k.
+fn settled(k: u32) -> Figure
+    ensures { λ r. ⌜ r ≡ bounded (λ d. k) 0 true ⌝ }
+{
+    Figure {
+        low: k,
+        high: k,
+        steps: 0,
+        finished: true,
+    }
+}
+
+// The figure where no step is left for a split.
+fn unfinished() -> Figure
+    ensures { λ r. ⌜ r ≡ unfinished ⌝ }
+{
+    Figure {
+        low: 0,
+        high: 1_000_000_000,
+        steps: 0,
+        finished: false,
+    }
+}
+
 // The figure of a network under a limit: what each step leaves is worked by the same rule, with a link less.
 pub fn work(net: Network, limit: u64) -> Figure
     requires { ⌜ Valid (networkOf net) × (limit < 2 ^ 32) ⌝ }
     ensures { λ r. ⌜ r ≡ figure (networkOf net) limit ⌝ }
 {
     match net.step() {
-        Step::OneNode => Figure {
-            low: 1_000_000_000,
-            high: 1_000_000_000,
-            steps: 0,
-            finished: true,
-        },
-        Step::Disconnected => Figure {
-            low: 0,
-            high: 0,
-            steps: 0,
-            finished: true,
-        },
+        Step::OneNode => settled(1_000_000_000),
+        Step::Disconnected => settled(0),
         Step::Loop(i) => work(net.deleted(i), limit),
         Step::Parallel(i, j) => work(net.parallel(i, j), limit),
         Step::End(v, i) => {
@@ -110,12 +124,7 @@ pub fn work(net: Network, limit: u64) -> Figure
         }
         Step::Split(i) => {
             if limit == 0 {
-                return Figure {
-                    low: 0,
-                    high: 1_000_000_000,
-                    steps: 0,
-                    finished: false,
-                };
+                return unfinished();
             }
             let e = net.link(i);
             let sound = work(net.contracted(i), limit - 1);

@@ -29,8 +29,10 @@ use Rattle.network.proofs.Network.parallel.Reads as parallel-reads
 use Rattle.network.proofs.Network.series.Reads as series-reads
 use Rattle.network.proofs.Network.step.Reads as step-reads
 use Rattle.factoring.proofs.blend.Reads as blend-reads
+use Rattle.factoring.proofs.settled.Reads as settled-reads
 use Rattle.factoring.proofs.times.Reads as times-reads
 use Rattle.factoring.proofs.times_factor.Reads as times-factor-reads
+use Rattle.factoring.proofs.unfinished.Reads as unfinished-reads
 use Rattle.factoring.proofs.+work.{statement}
 use Rattle.factoring.proofs.+work.Tie.{close}
 
@@ -47,6 +49,8 @@ abbrev claims : ℕ → work-lts.Claims
 claims t = (
   step-reads.Asked,
   step-reads.Learnt,
+  settled-reads.Asked,
+  settled-reads.Learnt,
   deleted-reads.Asked,
   deleted-reads.Learnt,
   work-below t,
@@ -63,6 +67,8 @@ claims t = (
   series-reads.Learnt,
   times-factor-reads.Asked,
   times-factor-reads.Learnt,
+  unfinished-reads.Asked,
+  unfinished-reads.Learnt,
   contracted-reads.Asked,
   contracted-reads.Learnt,
   blend-reads.Asked,
@@ -102,15 +108,6 @@ steps-of t o n l f e b s = subst (λ (k : Figure). k .steps ≤ l) (sym s) (figu
 work-step-requires : (t : ℕ) → work-lts.Need-step-requires (claims t) (work-at t) work.Post
 work-step-requires t c κs = c .pre .1 .0
 
-work-enum-told : (t : ℕ) → work-lts.Need-enum-told (claims t) (work-at t) work.Post
-work-enum-told t c = search needs
-
-work-enum-told-2 : (t : ℕ) → work-lts.Need-enum-told-2 (claims t) (work-at t) work.Post
-work-enum-told-2 t c = search needs
-
-work-enum-known-i : (t : ℕ) → work-lts.Need-enum-known-i (claims t) (work-at t) work.Post
-work-enum-known-i t c = search needs
-
 work-deleted-requires : (t : ℕ) → work-lts.Need-deleted-requires (claims t) (work-at t) work.Post
 unfolding Placed
 work-deleted-requires t c κs =
@@ -126,9 +123,6 @@ work-work-requires t c κs =
     let b = below-rest (networkOf n) (o .before .pre .1 .0) (deleted (indexOf n (k .0 .0)) (networkOf n)) (rule t o (Loop (k .0 .0)) (k .1)) in
     onward t o (c .deleted .result) (c .deleted .ensures) b (o .before .pre .1 .1)
 
-work-enum-known-i-2 : (t : ℕ) → work-lts.Need-enum-known-i-2 (claims t) (work-at t) work.Post
-work-enum-known-i-2 t c = search needs
-
 work-parallel-requires : (t : ℕ) → work-lts.Need-parallel-requires (claims t) (work-at t) work.Post
 unfolding Placed
 work-parallel-requires t c κs =
@@ -143,9 +137,6 @@ work-work-requires-2 t c κs =
     let o = c .before .before .before .before in
     let k = c .before .before .i2 .given in
     onward t o (c .parallel .result) (c .parallel .ensures) (below-rest (networkOf (o .before .args .net)) (o .before .pre .1 .0) _ (rule t o (Parallel (k .0 .0) (k .0 .1 .0)) (k .1))) (o .before .pre .1 .1)
-
-work-enum-known-v : (t : ℕ) → work-lts.Need-enum-known-v (claims t) (work-at t) work.Post
-work-enum-known-v t c = search needs
 
 work-link-requires : (t : ℕ) → work-lts.Need-link-requires (claims t) (work-at t) work.Post
 unfolding Placed
@@ -175,9 +166,6 @@ work-times-requires t c κs =
     let e = link-of t o (c .before .before .link .result) (indexOf (o .before .args .net) (k .0 .1 .0)) (f .place) (c .before .before .link .ensures) in
     let w = figure-of t o (c .before .end .result) (o .before .args .limit) (c .work3 .result) (c .before .end .ensures) (below-scaled (networkOf (o .before .args .net)) (o .before .pre .1 .0) _ _ (rule t o (End (k .0 .0) (k .0 .1 .0)) (k .1))) (c .work3 .ensures) in
     (e .0, e .1, w .0, w .1)
-
-work-enum-known-v-2 : (t : ℕ) → work-lts.Need-enum-known-v-2 (claims t) (work-at t) work.Post
-work-enum-known-v-2 t c = search needs
 
 work-link-requires-2 : (t : ℕ) → work-lts.Need-link-requires-2 (claims t) (work-at t) work.Post
 unfolding Placed
@@ -217,15 +205,12 @@ work-times-factor-requires t c κs =
     let w = figure-of t o (c .before .series .result) (o .before .args .limit) (c .work4 .result) (c .before .series .ensures) (below-scaled (networkOf (o .before .args .net)) (o .before .pre .1 .0) _ _ (rule t o (Series (k .0 .0) (k .0 .1 .0) (k .0 .1 .1 .0)) (k .1))) (c .work4 .ensures) in
     (e .0, e .1, h .0, h .1, w .0, w .1)
 
-work-enum-known-i-3 : (t : ℕ) → work-lts.Need-enum-known-i-3 (claims t) (work-at t) work.Post
-work-enum-known-i-3 t c = search needs
-
 work-returns : (t : ℕ) → work-lts.Need-returns (claims t) (work-at t) work.Post
 unfolding leaves ranked
 work-returns t c =
-    let o = c .before .before .before .before in
-    let k = c .before .before .i3 .given in
-    figure-limit (networkOf (o .before .args .net)) (o .before .pre .1 .0) _ _ _ (rule t o (Split (k .0 .0)) (k .1)) ∙ ap (λ (l : ℕ). figure (networkOf (o .before .args .net)) l) (sym (c .if1 .taken))
+    let o = c .before .before .before .before .before in
+    let k = c .before .before .before .i3 .given in
+    c .unfinished .ensures ∙ figure-limit (networkOf (o .before .args .net)) (o .before .pre .1 .0) _ _ _ (rule t o (Split (k .0 .0)) (k .1)) ∙ ap (λ (l : ℕ). figure (networkOf (o .before .args .net)) l) (sym (c .before .if1 .taken))
 
 work-link-requires-4 : (t : ℕ) → work-lts.Need-link-requires-4 (claims t) (work-at t) work.Post
 unfolding Placed
@@ -252,9 +237,6 @@ work-work-requires-5 t c κs =
 
 work-sub-left : (t : ℕ) → work-lts.Need-sub-left (claims t) (work-at t) work.Post
 work-sub-left t c = omega (arith, c .before .before .before .if1 .left)
-
-work-cast-left : (t : ℕ) → work-lts.Need-cast-left (claims t) (work-at t) work.Post
-work-cast-left t c = search needs
 
 work-sub-left-2 : (t : ℕ) → work-lts.Need-sub-left-2 (claims t) (work-at t) work.Post
 unfolding leaves ranked
@@ -298,14 +280,14 @@ work-blend-requires t c κs =
 work-returns-2 : (t : ℕ) → work-lts.Need-returns-2 (claims t) (work-at t) work.Post
 unfolding leaves ranked
 work-returns-2 t c =
-    let o = c .before .before in
-    figure-settled (networkOf (o .before .args .net)) (o .before .pre .1 .0) (o .before .args .limit) S (rule t o OneNode (c .enum-told .given .1))
+    let o = c .before .before .before in
+    c .settled .ensures ∙ figure-settled (networkOf (o .before .args .net)) (o .before .pre .1 .0) (o .before .args .limit) S (rule t o OneNode (c .before .enum-told .given .1))
 
 work-returns-3 : (t : ℕ) → work-lts.Need-returns-3 (claims t) (work-at t) work.Post
 unfolding leaves ranked
 work-returns-3 t c =
-    let o = c .before .before in
-    figure-settled (networkOf (o .before .args .net)) (o .before .pre .1 .0) (o .before .args .limit) 0 (rule t o Disconnected (c .enum-told2 .given .1))
+    let o = c .before .before .before in
+    c .settled2 .ensures ∙ figure-settled (networkOf (o .before .args .net)) (o .before .pre .1 .0) (o .before .args .limit) 0 (rule t o Disconnected (c .before .enum-told2 .given .1))
 
 work-returns-4 : (t : ℕ) → work-lts.Need-returns-4 (claims t) (work-at t) work.Post
 unfolding leaves ranked
@@ -365,33 +347,36 @@ pub +work-spec : {M : Type 1} → statement M
     (work-at t)
     work.Post
     (work-step-requires t)
-    (work-enum-told t)
-    (work-enum-told-2 t)
-    (work-enum-known-i t)
+    (λ c. search needs)
+    (λ c κs. search needs)
+    (λ c. search needs)
+    (λ c κs. search needs)
+    (λ c. search needs)
     (work-deleted-requires t)
     (work-work-requires t)
-    (work-enum-known-i-2 t)
+    (λ c. search needs)
     (work-parallel-requires t)
     (work-work-requires-2 t)
-    (work-enum-known-v t)
+    (λ c. search needs)
     (work-link-requires t)
     (work-end-requires t)
     (work-work-requires-3 t)
     (work-times-requires t)
-    (work-enum-known-v-2 t)
+    (λ c. search needs)
     (work-link-requires-2 t)
     (work-link-requires-3 t)
     (work-series-requires t)
     (work-work-requires-4 t)
     (work-times-factor-requires t)
-    (work-enum-known-i-3 t)
+    (λ c. search needs)
+    (λ c κs. search needs)
     (work-returns t)
     (work-link-requires-4 t)
     (work-contracted-requires t)
     (work-sub-work t)
     (work-work-requires-5 t)
     (work-sub-left t)
-    (work-cast-left t)
+    (λ c. search needs)
     (work-sub-left-2 t)
     (work-deleted-requires-2 t)
     (work-work-requires-6 t)
