@@ -4,10 +4,19 @@
 use outside::repository::{bytes, path};
 use std::collections::HashSet;
 use std::fs;
-use std::path::Path;
+use std::path::{Path, PathBuf};
 use std::process::Command;
 
+/// Documents with commands.
 const DOCUMENTS: [&str; 2] = ["README.md", "docs/READING.md"];
+
+/// Documents that name files, definitions, theorems, functions and edits.
+const NAMING: [&str; 4] = [
+    "README.md",
+    "docs/READING.md",
+    "docs/DEMANDS.md",
+    "docs/DECISIONS.md",
+];
 
 struct Example {
     line: usize,
@@ -68,8 +77,9 @@ fn in_a_name(c: char) -> bool {
     c.is_alphanumeric() || c == '_' || c == '-'
 }
 
-/// Adds the names in a file, or in all files of a folder.
+/// Adds the names in a file, or in all files of a folder, and their own.
 fn add_names(place: &Path, names: &mut HashSet<String>) {
+    names.insert(place.file_stem().unwrap().to_string_lossy().into_owned());
     if place.is_dir() {
         for entry in fs::read_dir(place).unwrap() {
             add_names(&entry.unwrap().path(), names);
@@ -80,18 +90,26 @@ fn add_names(place: &Path, names: &mut HashSet<String>) {
     }
 }
 
+/// Whether there is such a file, from the root, from `outside` or from a crate's folder.
+fn is_a_file(name: &str) -> bool {
+    let crates = fs::read_dir(path("crates")).unwrap();
+    let mut folders: Vec<PathBuf> = crates.map(|entry| entry.unwrap().path()).collect();
+    folders.extend([path(""), path("outside")]);
+    folders.iter().any(|folder| folder.join(name).exists())
+}
+
 #[test]
 fn files_and_names_exist() {
     let mut names = HashSet::new();
     for place in ["crates", "include", "outside/src", "outside/tests"] {
         add_names(&path(place), &mut names);
     }
-    for document in DOCUMENTS {
+    for document in NAMING {
         let text = String::from_utf8(bytes(document)).unwrap();
         for word in text.split('`').skip(1).step_by(2) {
             let known = match word {
-                _ if word.contains("NAME") => true,
-                _ if word.contains('/') => path(word).exists(),
+                _ if word.contains("NAME") || word.contains(' ') => true,
+                _ if word.contains('/') => is_a_file(word),
                 _ if word.chars().all(in_a_name) => names.contains(word),
                 _ => true,
             };
