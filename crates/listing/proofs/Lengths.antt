@@ -16,18 +16,18 @@ use Rattle.plan.specs.declared.Verdict.{Verdict}
 use Rattle.plan.specs.declared.Verdict.the-variants.{Accepted, Refused}
 use Rattle.plan.specs.Plans.{sizeN, sizeM, verdict, linkIn, planOf}
 use Rattle.plan.proofs.Verdicts.{accepted-means}
-use Rattle.listing.specs.Listings.{limit, text, isDigit, meant, filled, sizesLine, figureLine, linkLine, linkLines, refusedLine, listingBy, listing, Puts}
+use Rattle.listing.specs.Listings.{limit, text, isDigit, meant, filled, sizesLine, figureLine, linkLine, lineOf, linkLines, refusedLine, listingBy, listing, Puts}
 use Rattle.listing.proofs.Texts.{length-decimal, number-meant, itself-meant}
 
 -- ---- link by link
 
 module _ (plan : List ℕ) (m i : ℕ) where
-  pub links-next : i < m → linkLines plan i (m - i) ≡ linkLine i (linkIn plan i) (importance (planOf plan) i limit) ++ linkLines plan (i + 1) (m - (i + 1))
+  pub links-next : i < m → linkLines plan i (m - i) ≡ lineOf plan i ++ linkLines plan (i + 1) (m - (i + 1))
   unfolding linkLines
   links-next h =
       let e : m - i ≡ suc (m - (i + 1)) = omega arith in
       let f : suc i ≡ i + 1 = omega arith in
-      ap (linkLines plan i) e ∙ ap (λ (k : ℕ). linkLine i (linkIn plan i) (importance (planOf plan) i limit) ++ linkLines plan k (m - (i + 1))) f
+      ap (linkLines plan i) e ∙ ap (λ (k : ℕ). lineOf plan i ++ linkLines plan k (m - (i + 1))) f
 
   pub links-none : m ≤ i → linkLines plan i (m - i) ≡ []
   unfolding linkLines
@@ -71,9 +71,7 @@ length-links : (plan : List ℕ) (i k : ℕ) → length (linkLines plan i k) ≤
 unfolding linkLines
 length-links plan i zero = omega arith
 length-links plan i (suc k) =
-    let e = linkIn plan i in
-    let f = importance (planOf plan) i limit in
-    omega (arith, length-append (linkLine i e f) (linkLines plan (suc i) k), length-link i e f, length-links plan (suc i) k)
+    omega (arith, length-append (lineOf plan i) (linkLines plan (suc i) k), length-link i (linkIn plan i) (importance (planOf plan) i limit), length-links plan (suc i) k)
 
 -- ---- the whole listing
 

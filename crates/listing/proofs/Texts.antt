@@ -120,16 +120,15 @@ module _ (l : List ℕ) (at x : ℕ) where
 
 module _ (xs : List ℕ) where
   module _ (c : ℕ) where
-    digit-meant : isDigit c ≡ true → meant xs c ≡ decimal (getD xs (c - 48) 0)
+    meant-by : (t : Bool) → isDigit c ≡ t → meant xs c ≡ (elim t as (λ _. List ℕ) [ true ↦ decimal (getD xs (c - 48) 0) | false ↦ c ∷ [] ])
     unfolding meant
-    digit-meant h = ap (λ t. elim t as (λ _. List ℕ) [ true ↦ decimal (getD xs (c - 48) 0) | false ↦ c ∷ [] ]) h
+    meant-by t h = ap (λ u. elim u as (λ _. List ℕ) [ true ↦ decimal (getD xs (c - 48) 0) | false ↦ c ∷ [] ]) h
 
     pub number-meant : isDigit c ≡ true → (x : ℕ) → x ≡ getD xs (c - 48) 0 → decimal x ≡ meant xs c
-    number-meant h x e = ap decimal e ∙ sym (digit-meant h)
+    number-meant h x e = ap decimal e ∙ sym (meant-by true h)
 
     pub itself-meant : isDigit c ≡ false → c ∷ [] ≡ meant xs c
-    unfolding meant
-    itself-meant h = sym (ap (λ t. elim t as (λ _. List ℕ) [ true ↦ decimal (getD xs (c - 48) 0) | false ↦ c ∷ [] ]) h)
+    itself-meant h = sym (meant-by false h)
 
   pub filled-none : (form : List ℕ) (i : ℕ) → length form ≤ i → filled xs (drop i form) ≡ []
   unfolding filled

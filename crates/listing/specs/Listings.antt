@@ -70,10 +70,14 @@ figureLine f = filled (f .low ∷ f .high ∷ f .steps ∷ cond (f .finished) 1 
 abbrev pub linkLine : ℕ → Link → Figure → List ℕ
 linkLine i e f = filled (i ∷ e .a ∷ e .b ∷ e .low ∷ f .low ∷ f .high ∷ []) (text "link 0 1 2 3 4 5\n")
 
+-- the line of link i of a plan
+abbrev pub lineOf : List ℕ → ℕ → List ℕ
+lineOf plan i = linkLine i (linkIn plan i) (importance (planOf plan) i limit)
+
 -- the links of a plan from i on, k of them
 unfoldable pub linkLines : List ℕ → ℕ → ℕ → List ℕ
 linkLines plan i zero = []
-linkLines plan i (suc k) = linkLine i (linkIn plan i) (importance (planOf plan) i limit) ++ linkLines plan (suc i) k
+linkLines plan i (suc k) = lineOf plan i ++ linkLines plan (suc i) k
 
 -- number and link of a refusal
 abbrev pub refusedLine : Cause → List ℕ

@@ -6,9 +6,8 @@ ghost use mathlib.Core.Path.{_≡_};
 ghost use mathlib.Core.List.{_++_};
 ghost use Prim.Native.Nat.{_+_, _≤_, _<_};
 ghost use lib.ListN.{length, getD, drop};
-ghost use Rattle.reliability.specs.Comparisons.{importance};
-ghost use Rattle.plan.specs.Plans.{sizeM, verdict, linkIn, planOf};
-ghost use Rattle.listing.specs.Listings.{limit, Puts, decimal, isDigit, meant, filled, sizesLine, figureLine, linkLine, linkLines, refusedLine, listingBy, listing};
+ghost use Rattle.plan.specs.Plans.{sizeM, verdict};
+ghost use Rattle.listing.specs.Listings.{Puts, decimal, isDigit, meant, filled, sizesLine, figureLine, lineOf, linkLines, refusedLine, listingBy, listing};
 
 // The default limit.
 const LIMIT: u64 = 20_000;
@@ -87,8 +86,8 @@ fn put_figure(text: &mut [u8], at: usize, f: Figure) -> usize
 
 // The line of link i of an accepted plan.
 fn put_link(text: &mut [u8], at: usize, plan: &[u8], i: usize) -> usize
-    requires { ⌜ (verdict (now plan) ≡ Verdict.Accepted) × (i < sizeM (now plan)) × (at + length (linkLine i (linkIn (now plan) i) (importance (planOf (now plan)) i limit)) ≤ length (now text)) ⌝ }
-    ensures { λ r. ⌜ Puts (now (text .entry)) at (linkLine i (linkIn (now (plan .entry)) i) (importance (planOf (now (plan .entry))) i limit)) (now (text .exit)) r ⌝ }
+    requires { ⌜ (verdict (now plan) ≡ Verdict.Accepted) × (i < sizeM (now plan)) × (at + length (lineOf (now plan) i) ≤ length (now text)) ⌝ }
+    ensures { λ r. ⌜ Puts (now (text .entry)) at (lineOf (now (plan .entry)) i) (now (text .exit)) r ⌝ }
 {
     let e = plan::link_at(plan, i);
     let f = factoring::importance(plan::network_of(plan), i, LIMIT);

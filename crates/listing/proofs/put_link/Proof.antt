@@ -6,10 +6,9 @@ use lib.ListN.{length}
 use Rattle.reliability.specs.declared.Link.{Link}
 use Rattle.reliability.specs.declared.Figure.{Figure}
 use Rattle.reliability.specs.Comparisons.{importance}
-use Rattle.plan.specs.Plans.{linkIn, planOf}
 use Rattle.plan.proofs.Verdicts.{accepted-means}
 use Rattle.plan.proofs.Accepted.{stands-plain, stands-importance}
-use Rattle.listing.specs.Listings.{limit, Puts, linkLine}
+use Rattle.listing.specs.Listings.{limit, Puts, linkLine, lineOf}
 use borrow.Author.Needs.{needs}
 use Rattle.listing.proofs.put_link.Statement.{statement}
 use Rattle.listing.proofs.put_link.Tie as tie
@@ -52,7 +51,7 @@ cast-t16 c = search needs
 slice-aggregate-put-line-2 : tie.Need-slice-aggregate-put-line-2
 slice-aggregate-put-line-2 c = search needs
 
-line : (c : tie.After-importance) → let a = c .before .before .before .before .before .args in linkLine (a .i) (c .before .before .link-at .result) (c .importance .result) ≡ linkLine (a .i) (linkIn (a .plan .now) (a .i)) (importance (planOf (a .plan .now)) (a .i) limit)
+line : (c : tie.After-importance) → let a = c .before .before .before .before .before .args in linkLine (a .i) (c .before .before .link-at .result) (c .importance .result) ≡ lineOf (a .plan .now) (a .i)
 line c =
     let a = c .before .before .before .before .before .args in
     let n = c .before .network-of in

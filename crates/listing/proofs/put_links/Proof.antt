@@ -4,10 +4,9 @@ use native.Mathlib.Nat.{sub-zero}
 use native.Mathlib.Omega.{arith}
 use lib.ListN.{length}
 use lib.Seq.{sets}
-use Rattle.reliability.specs.Comparisons.{importance}
-use Rattle.plan.specs.Plans.{sizeM, linkIn, planOf}
+use Rattle.plan.specs.Plans.{sizeM}
 use Rattle.plan.proofs.Verdicts.{accepted-means}
-use Rattle.listing.specs.Listings.{limit, Puts, linkLine, linkLines}
+use Rattle.listing.specs.Listings.{Puts, lineOf, linkLines}
 use Rattle.listing.proofs.Texts.{Remaining, begun, room, goes-on, done}
 use Rattle.listing.proofs.Lengths.{links-next, links-none}
 use borrow.Author.Needs.{needs}
@@ -45,7 +44,7 @@ put-link-requires c κs =
     let k = q .before .before .before .before .before .pre in
     let (e, l, r) = q .loop .inv in
     let i = q .loop .i in
-    (k .0, omega (arith, e), room _ _ _ _ _ _ r (linkLine i (linkIn (a .plan .now) i) (importance (planOf (a .plan .now)) i limit)) _ (links-next (a .plan .now) _ i (omega arith)) (subst (λ (j : ℕ). a .at + length (linkLines (a .plan .now) 0 j) ≤ length (a .text .now)) (sym e) (k .1)))
+    (k .0, omega (arith, e), room _ _ _ _ _ _ r (lineOf (a .plan .now) i) _ (links-next (a .plan .now) _ i (omega arith)) (subst (λ (j : ℕ). a .at + length (linkLines (a .plan .now) 0 j) ≤ length (a .text .now)) (sym e) (k .1)))
 
 add-i : tie.Need-add-i Inv-loop μ-loop
 add-i c = search needs
@@ -60,7 +59,7 @@ loop-again c =
     let a = q .before .before .before .before .before .args in
     let (e, l, r) = q .loop .inv in
     let i = q .loop .i in
-    (e, omega arith, goes-on _ _ _ _ _ _ r (linkLine i (linkIn (a .plan .now) i) (importance (planOf (a .plan .now)) i limit)) _ (links-next (a .plan .now) _ i (omega arith)) (p .last .0) (p .result) (p .ensures))
+    (e, omega arith, goes-on _ _ _ _ _ _ r (lineOf (a .plan .now) i) _ (links-next (a .plan .now) _ i (omega arith)) (p .last .0) (p .result) (p .ensures))
 
 same-length : tie.Need-same-length Inv-loop μ-loop
 same-length c = c .before .loop .inv .2 .kept
