@@ -79,7 +79,7 @@ module _ (plan : List ℕ) (limit : ℕ) (b : List ℕ) where
     valid = valid-of plan well
 
     range : (f .low ≤ f .high) × (f .high ≤ S)
-    range = (rule.low-high g valid limit (plan-equal plan), rule.high-range g valid limit)
+    range = (rule.low-high-of-equal g valid limit (plan-equal plan), rule.high-range g valid limit)
 
     -- demand 3: its low and its high equal those that the written rule gives under that limit
     pub figure-numbers : Holds after f
@@ -107,7 +107,7 @@ module _ (plan : List ℕ) (limit : ℕ) (b : List ℕ) where
     -- demand 3: a finished pair is at most 2m + 4n wide, however many splits it took
     pub figure-width : finishedIn after ≡ 1 → highIn after ≤ lowIn after + (2 * m + 4 * n)
     figure-width done =
-        let w = rule.width g valid limit (plan-equal plan) (mark-true (f .finished) (figure-numbers .finished) done) in
+        let w = rule.width-of-equal g valid limit (plan-equal plan) (mark-true (f .finished) (figure-numbers .finished) done) in
         omega (arith, figure-numbers, plan-links plan, plan-nodes plan)
 
     -- so no plan's 0 to S is finished

@@ -15,7 +15,7 @@ use Rattle.reliability.specs.Networks.{Network, Valid}
 use Rattle.reliability.specs.Rule.{figure, needed}
 use Rattle.reliability.specs.Comparisons.{difference, exactDifference}
 use Rattle.reliability.proofs.Signed.{minus-range}
-use Rattle.reliability.proofs.Theorems.{high-range, low-high}
+use Rattle.reliability.proofs.Theorems.{high-range, low-high-of-equal}
 use Rattle.reliability.proofs.Comparisons as rule
 use Rattle.plan.specs.declared.Verdict.{Verdict}
 use Rattle.plan.specs.declared.Verdict.the-variants.{Accepted}
@@ -94,8 +94,8 @@ module _ (first second : List ℕ) (limit : ℕ) (b : List ℕ) where
 
     small : (mag (d .low) < 2 ^ 31) × (mag (d .high) < 2 ^ 31)
     small =
-        let x = low-high g gv limit (plan-equal first) in
-        let y = low-high h hv limit (plan-equal second) in
+        let x = low-high-of-equal g gv limit (plan-equal first) in
+        let y = low-high-of-equal h hv limit (plan-equal second) in
         let p = high-range g gv limit in
         let q = high-range h hv limit in (
           minus-range (figure g limit .low) (figure h limit .high) (2 ^ 31) (omega arith) (omega arith),
@@ -106,7 +106,7 @@ module _ (first second : List ℕ) (limit : ℕ) (b : List ℕ) where
     pub difference-numbers : HoldsSigned after d
     difference-numbers =
         let most = difference-accepted .0 zero .0 in
-        let taken = rule.difference-steps g h gv hv (plan-equal first) (plan-equal second) limit in
+        let taken = rule.difference-steps g h gv hv limit in
         let n = read-back bits b difference-full-or-refused zero (twos-range (d .low) (small .0), twos-range (d .high) (small .1), omega arith) in
         record { low = ap signed (n .low) ∙ signed-back (d .low) (small .0); high = ap signed (n .high) ∙ signed-back (d .high) (small .1); steps = n .steps; finished = n .finished }
 
@@ -115,26 +115,26 @@ module _ (first second : List ℕ) (limit : ℕ) (b : List ℕ) where
     difference-encloses =
         rw (difference-numbers .low, difference-numbers .high)
         (subst (λ (k : ℕ). ((d .low *ℤ pos (S ^ k)) ≤ℤ (pos S *ℤ exactDifference g h)) × ((pos S *ℤ exactDifference g h) ≤ℤ (d .high *ℤ pos (S ^ k))))
-        (ap₂ _+_ (plan-links first) (plan-links second)) (rule.difference-enclosure g h gv hv (plan-equal first) (plan-equal second) limit))
+        (ap₂ _+_ (plan-links first) (plan-links second)) (rule.difference-enclosure-of-equal g h gv hv limit (plan-equal first) (plan-equal second)))
 
     -- from −S to S, low no higher than high
     pub difference-range : (negℤ (pos S) ≤ℤ low) × (low ≤ℤ high) × (high ≤ℤ pos S)
-    difference-range = rw (difference-numbers .low, difference-numbers .high) (rule.difference-range g h gv hv (plan-equal first) (plan-equal second) limit)
+    difference-range = rw (difference-numbers .low, difference-numbers .high) (rule.difference-range-of-equal g h gv hv limit (plan-equal first) (plan-equal second))
 
     -- demand 3, likewise: each of the two evaluations gets the whole limit; steps add
     pub difference-steps : stepsIn after ≡ min (needed g) limit + min (needed h) limit
-    difference-steps = difference-numbers .steps ∙ rule.difference-steps g h gv hv (plan-equal first) (plan-equal second) limit
+    difference-steps = difference-numbers .steps ∙ rule.difference-steps g h gv hv limit
 
     -- demand 3, likewise: finished if both evaluations are
     pub difference-marked : Marked (finishedIn after) (max (needed g) (needed h)) limit
     difference-marked =
-        let both = rule.difference-finished g h gv hv (plan-equal first) (plan-equal second) limit ∙ both-finished (needed g) (needed h) limit in
+        let both = rule.difference-finished g h gv hv limit ∙ both-finished (needed g) (needed h) limit in
         marked (max (needed g) (needed h)) limit (difference-numbers .finished ∙ ap (λ t. cond t 1 0) both)
 
     -- demand 3, likewise: a finished pair is no wider than its two evaluations' bounds together
     pub difference-width : finishedIn after ≡ 1 → high ≤ℤ (low +ℤ pos ((2 * sizeM first + 4 * sizeN first) + (2 * sizeM second + 4 * sizeN second)))
     difference-width done =
-        let wide = rule.difference-width g h gv hv (plan-equal first) (plan-equal second) limit (mark-true (d .finished) (difference-numbers .finished) done) in
+        let wide = rule.difference-width-of-equal g h gv hv limit (plan-equal first) (plan-equal second) (mark-true (d .finished) (difference-numbers .finished) done) in
         rw (difference-numbers .low, difference-numbers .high)
         (subst (λ (k : ℕ). d .high ≤ℤ (d .low +ℤ pos k)) (omega (arith, plan-links first, plan-nodes first, plan-links second, plan-nodes second)) wide)
 
@@ -144,5 +144,5 @@ pub difference-nesting : (first second : List ℕ) (limit larger : ℕ) (b c : L
 difference-nesting first second limit larger b c p q l =
     let x = difference-numbers first second limit b p in
     let y = difference-numbers first second larger c q in
-    let nested = rule.difference-nesting (planOf first) (planOf second) (gv first second limit b p) (hv first second limit b p) (plan-equal first) (plan-equal second) limit larger l in
+    let nested = rule.difference-nesting (planOf first) (planOf second) (gv first second limit b p) (hv first second limit b p) limit larger l in
     record { low = rw (x .low, y .low) (nested .0); high = rw (x .high, y .high) (nested .1) }

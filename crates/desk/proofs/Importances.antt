@@ -83,19 +83,19 @@ module _ (plan : List ℕ) (place limit : ℕ) (b : List ℕ) where
     present = omega (arith, importance-accepted .0 zero .3, plan-links plan)
 
     range : (f .low ≤ f .high) × (f .high ≤ S)
-    range = rule.importance-range g valid (plan-equal plan) place present limit
+    range = rule.importance-range-of-equal g valid place present limit (plan-equal plan)
 
     -- demand 3, likewise: its low and its high equal those that the written rule gives under that limit
     pub importance-numbers : Holds after f
     importance-numbers =
-        read-back f b importance-full-or-refused zero (omega (arith, range, importance-accepted .0 zero .0, rule.importance-steps g valid (plan-equal plan) place present limit))
+        read-back f b importance-full-or-refused zero (omega (arith, range, importance-accepted .0 zero .0, rule.importance-steps g valid place present limit))
 
     -- demand 2: low × S^(m−1) ≤ S × (sound − broken) ≤ high × S^(m−1)
     pub importance-encloses : (lowIn after * S ^ fewer ≤ S * exactly) × (S * exactly ≤ highIn after * S ^ fewer)
     importance-encloses =
         rw (importance-numbers .low, importance-numbers .high)
         (subst (λ (k : ℕ). (f .low * S ^ (k - 1) ≤ S * exactly) × (S * exactly ≤ f .high * S ^ (k - 1))) (plan-links plan)
-        (rule.importance-enclosure g valid (plan-equal plan) place present limit))
+        (rule.importance-enclosure-of-equal g valid place present limit (plan-equal plan)))
 
     -- from 0 to S, low no higher than high
     pub importance-range : (lowIn after ≤ highIn after) × (highIn after ≤ S)
@@ -103,24 +103,24 @@ module _ (plan : List ℕ) (place limit : ℕ) (b : List ℕ) where
 
     -- demand 3, likewise: each of the two evaluations gets the whole limit; steps add
     pub importance-steps : stepsIn after ≡ min (needed sound) limit + min (needed broken) limit
-    importance-steps = importance-numbers .steps ∙ rule.importance-steps g valid (plan-equal plan) place present limit
+    importance-steps = importance-numbers .steps ∙ rule.importance-steps g valid place present limit
 
     -- demand 3, likewise: finished if both evaluations are
     pub importance-marked : Marked (finishedIn after) (max (needed sound) (needed broken)) limit
     importance-marked =
-        let both = rule.importance-finished g valid (plan-equal plan) place present limit ∙ both-finished (needed sound) (needed broken) limit in
+        let both = rule.importance-finished g valid place present limit ∙ both-finished (needed sound) (needed broken) limit in
         marked (max (needed sound) (needed broken)) limit (importance-numbers .finished ∙ ap (λ t. cond t 1 0) both)
 
     -- demand 3, likewise: a finished pair is no wider than its two evaluations' bounds together
     pub importance-width : finishedIn after ≡ 1
         → highIn after ≤ lowIn after + ((2 * fewer + 4 * length (sound .nodes)) + (2 * fewer + 4 * length (broken .nodes)))
     importance-width done =
-        let w = rule.importance-width g valid (plan-equal plan) place present limit (mark-true (f .finished) (importance-numbers .finished) done) in
+        let w = rule.importance-width-of-equal g valid place present limit (plan-equal plan) (mark-true (f .finished) (importance-numbers .finished) done) in
         omega (arith, importance-numbers, plan-links plan)
 
 -- demand 3, likewise: with a larger limit and all else alike the second pair lies within the first
 pub importance-nesting : (plan : List ℕ) (place limit larger : ℕ) (b c : List ℕ) → importanceOutcome plan place limit b .returned ≡ 0 → importanceOutcome plan place larger c .returned ≡ 0
     → limit ≤ larger → LiesWithin (importanceOutcome plan place larger c .buffer) (importanceOutcome plan place limit b .buffer)
 importance-nesting plan place limit larger b c p q h =
-    let nested = rule.importance-nesting (planOf plan) (valid plan place limit b p) (plan-equal plan) place (present plan place limit b p) limit larger h in
+    let nested = rule.importance-nesting (planOf plan) (valid plan place limit b p) place (present plan place limit b p) limit larger h in
     omega (arith, importance-numbers plan place limit b p, importance-numbers plan place larger c q)

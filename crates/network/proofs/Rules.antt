@@ -233,7 +233,7 @@ pub next-by : (g : Graph) → (loop : Option ℕ) → firstAt isLoop (g .links) 
     → (series : Option Step) → lowest seriesOf (g .links) (g .nodes) ≡ series
     → Rule.next g ≡ (Option·map Loop loop otherwise when one OneNode otherwise when (not whole) Disconnected
     otherwise Option·map (λ ij. Parallel (ij .0) (ij .1)) pair otherwise end otherwise series otherwise Split (chosen g))
-unfolding Rule.next
+unfolding Rule.nextAt
 next-by g loop l one o whole w pair p end e series s = rw (← l, ← o, ← w, ← p, ← e, ← s)
 
 -- ---- the links of a network

@@ -1,80 +1,130 @@
 -- What is promised of an importance and of a difference: the promises of their two figures, combined.
-use Prim.Native.Nat.{ℕ, zero, suc, _+_, _-_, _*_, _^_, _≤_, _<_, min, max}
+use Prim.Native.Nat.{ℕ, _+_, _-_, _*_, _^_, _≤_, _<_, min, max}
 use mathlib.Core.Path.{_≡_, refl, sym, ap, ap₂, _∙_, subst, subst₂}
-use mathlib.Core.List.{List, [], _∷_, map, List·Memᴰ, Memᴰ·of-map}
+use mathlib.Core.List.{List, [], map}
 use mathlib.Core.Bool.{Bool, true, false, _&&_, and-eq-true-iff}
-use native.Mathlib.Nat.{mul-assoc, mul-comm, mul-sub, add-le-add, mul-le-mul-left, mul-le-mul-right, le-of-mul-le-mul-right, le-refl, le-trans, le-of-eq}
+use native.Mathlib.Nat.{mul-assoc, mul-comm, mul-sub, add-le-add, mul-le-mul-left, mul-le-mul-right, le-of-mul-le-mul-right, le-trans}
 use native.Mathlib.Omega.{arith}
-use lib.Dec.{eqb, leb}
-use lib.ListN.{length, length-map}
+use lib.Dec.{leb}
+use lib.ListN.{length, length-map, List·getD-map}
 use lib.IntN.{ℤ, pos, negℤ, _+ℤ_, _-ℤ_, _*ℤ_, *ℤ-comm}
 use lib.Pow.{pow-add}
 use lib.Signed.{_≤ℤ_}
 use borrow.Author.Tests.{eqb-true, eqb-false}
 use Rattle.rounding.specs.Rounding.{S}
+use Rattle.rounding.specs.declared.Direction.{Direction}
 use Rattle.rounding.specs.declared.Direction.the-variants.{Down, Up}
 use Rattle.rounding.proofs.Laws.{sub-mul}
 use Rattle.reliability.specs.declared.Link.{Link}
 use Rattle.reliability.specs.declared.Figure.{Figure}
-use Rattle.reliability.specs.Networks.{Network, Valid, linkAt}
-use Rattle.reliability.specs.Exact.{exact, Equal}
-use Rattle.reliability.specs.Rule.{isLoop, deleteAt, deleted, contracted, renamed, figure, needed}
-use Rattle.reliability.specs.Comparisons.{soundAt, brokenAt, importance, exactImportance, difference, exactDifference}
-use Rattle.reliability.proofs.Lists.{mem-delete, length-delete}
-use Rattle.reliability.proofs.Validity.{proper-at, deleted-valid, contracted-valid}
-use Rattle.reliability.proofs.Reductions.{sound-more}
+use Rattle.reliability.specs.Networks.{Network, Valid, ends, value, linked, linkAt}
+use Rattle.reliability.specs.Exact.{Weighted, weighted, sum, total, exact, AllEnclosed, altogether, Equal}
+use Rattle.reliability.specs.Rule.{isLoop, deleteAt, without, deleted, contracted, renamed, figure, needed, budget}
+use Rattle.reliability.specs.Comparisons.{soundAt, brokenAt, importance, soundSum, brokenSum, exactImportance, difference, apart, exactDifference}
+use Rattle.reliability.proofs.Lists.{map-delete, mem-delete, length-delete}
+use Rattle.reliability.proofs.States.{moved, front, sum-more, loop-idle, contraction, onto-kept}
+use Rattle.reliability.proofs.Validity.{proper-at, smaller-node, larger-smaller, deleted-valid, contracted-valid}
+use Rattle.reliability.proofs.Reductions.{weighted-renamed}
 use Rattle.reliability.proofs.Signed.{minus-order, minus-mul, minus-add}
-use Rattle.reliability.proofs.Theorems.{steps-taken, finished-when, nesting, high-range, enclosure-of-equal, low-high, width, power-pos}
+use Rattle.reliability.proofs.Weights.{Near, total-pos, all-deleted, all-renamed, total-moved, no-units}
+use Rattle.reliability.proofs.Theorems.{steps-taken, finished-when, nesting, high-range, near-exact, low-high, width, equal-enclosed, equal-total}
 
--- a valid network of m links whose values are equal
-pub record Plain (m : ℕ) (g : Network) : Type 0 where
-  pub valid : Valid g
-  pub equal : Equal g
-  pub size : length (g .links) ≡ m
+-- ---- a link sound or broken
 
-bracket : {m : ℕ} (g : Network) → Plain m g → (limit : ℕ) → (figure g limit .low * S ^ m ≤ S * exact Down g) × (S * exact Down g ≤ figure g limit .high * S ^ m)
-bracket g p limit =
-    subst (λ (m : ℕ). (figure g limit .low * S ^ m ≤ S * exact Down g) × (S * exact Down g ≤ figure g limit .high * S ^ m)) (p .size) (enclosure-of-equal g (p .valid) limit (p .equal))
-
-span : {m : ℕ} (g : Network) → Plain m g → (limit : ℕ) → figure g limit .finished ≡ true → figure g limit .high ≤ figure g limit .low + (2 * m + 4 * length (g .nodes))
-span g p limit done =
-    subst (λ (m : ℕ). figure g limit .high ≤ figure g limit .low + (2 * m + 4 * length (g .nodes))) (p .size) (width g (p .valid) limit (p .equal) done)
-
-module _ (g : Network) (valid : Valid g) (equal : Equal g) (i : ℕ) (place : i < length (g .links)) where
+module _ (g : Network) (valid : Valid g) (i : ℕ) (place : i < length (g .links)) where
   abbrev e : Link
   e = linkAt g i
 
-  less : length (deleteAt i (g .links)) ≡ length (g .links) - 1
-  less = let l = length-delete {i = i} (g .links) place in omega arith
+  abbrev keep : ℕ
+  keep = min (e .a) (e .b)
 
-  pub broken-plain : Plain (length (g .links) - 1) (brokenAt i g)
-  broken-plain = record { valid = deleted-valid g valid i; equal = λ f m. equal f (mem-delete i (g .links) m); size = less }
+  abbrev gone : ℕ
+  gone = max (e .a) (e .b)
 
-  contracted-plain : (e .a ≡ e .b → ⊥) → Plain (length (g .links) - 1) (contracted e (deleted i g))
-  contracted-plain differ = record {
-    valid = contracted-valid (deleted i g) (deleted-valid g valid i) e (proper-at g valid i place) differ;
-    equal = λ f m.
-        let (k, n, q) = Memᴰ·of-map (renamed (min (e .a) (e .b)) (max (e .a) (e .b))) (deleteAt i (g .links)) m in
-        subst (λ (l : Link). l .low ≡ l .high) q (equal k (mem-delete i (g .links) n));
-    size = length-map (deleteAt i (g .links)) (renamed (min (e .a) (e .b)) (max (e .a) (e .b))) ∙ less;
-  }
-
-  pub sound-plain : Plain (length (g .links) - 1) (soundAt i g)
-  unfolding soundAt
-  sound-plain = go (isLoop e) refl
+  -- what holds of the network with link i sound, whether it is a loop or not
+  by-loop : (P : Bool → Type 0) → (e .a ≡ e .b → P true) → ((e .a ≡ e .b → ⊥) → P false) → P (isLoop e)
+  by-loop P loop other = go (isLoop e) refl
     where
-      go : (t : Bool) → isLoop e ≡ t → Plain (length (g .links) - 1) (elim t as (λ _. Network) [ true ↦ deleted i g | false ↦ contracted e (deleted i g) ])
-      go true p = broken-plain
-      go false p = contracted-plain (eqb-false (e .a) (e .b) p)
+      go : (t : Bool) → isLoop e ≡ t → P t
+      go true p = loop (eqb-true (e .a) (e .b) p)
+      go false p = other (eqb-false (e .a) (e .b) p)
 
-  -- with the link sound no less is connected, so the truncated difference is the difference
-  pub sound-broken : exact Down (brokenAt i g) ≤ exact Down (soundAt i g)
+  abbrev sound-if : Bool → Network
+  sound-if t = elim t [ true ↦ deleted i g | false ↦ contracted e (deleted i g) ]
+
+  pub broken-valid : Valid (brokenAt i g)
+  broken-valid = deleted-valid g valid i
+
+  pub sound-valid : Valid (soundAt i g)
   unfolding soundAt
-  sound-broken = go (isLoop e) refl
-    where
-      go : (t : Bool) → isLoop e ≡ t → exact Down (brokenAt i g) ≤ exact Down (elim t as (λ _. Network) [ true ↦ deleted i g | false ↦ contracted e (deleted i g) ])
-      go true p = le-refl (exact Down (deleted i g))
-      go false p = sound-more Down g valid i (record { place = place; differ = eqb-false (e .a) (e .b) p })
+  sound-valid = by-loop (λ t. Valid (sound-if t)) (λ l. broken-valid) (λ n. contracted-valid (deleted i g) broken-valid e (proper-at g valid i place) n)
+
+  pub broken-links : length (brokenAt i g .links) ≡ length (g .links) - 1
+  broken-links = let l = length-delete {i = i} (g .links) place in omega arith
+
+  pub sound-links : length (soundAt i g .links) ≡ length (g .links) - 1
+  unfolding soundAt
+  sound-links = by-loop (λ t. length (sound-if t .links) ≡ length (g .links) - 1) (λ l. broken-links) (λ n. length-map (deleteAt i (g .links)) (renamed keep gone) ∙ broken-links)
+
+  -- the weights of the other links, where link i is sound
+  abbrev weights-if : Bool → List Weighted → List Weighted
+  weights-if t ws = elim t [ true ↦ deleteAt i ws | false ↦ map (moved keep gone) (deleteAt i ws) ]
+
+  unfoldable pub soundWeights : List Weighted → List Weighted
+  soundWeights ws = weights-if (isLoop e) ws
+
+  pub sound-encloses : {cs : List ℕ} {ws : List Weighted} → AllEnclosed cs (g .links) ws → AllEnclosed (deleteAt i cs) (soundAt i g .links) (soundWeights ws)
+  unfolding soundAt soundWeights
+  sound-encloses {cs} {ws} h =
+      by-loop (λ t. AllEnclosed (deleteAt i cs) (sound-if t .links) (weights-if t ws)) (λ l. all-deleted i h) (λ n. all-renamed keep gone (all-deleted i h))
+
+  pub sound-total : (ws : List Weighted) → total (soundWeights ws) ≡ total (deleteAt i ws)
+  unfolding soundWeights
+  sound-total ws = by-loop (λ t. total (weights-if t ws) ≡ total (deleteAt i ws)) (λ l. refl) (λ n. total-moved keep gone (deleteAt i ws))
+
+  -- the sum of the network with link i sound is the sum with link i in every set
+  pub sound-sum : (ws : List Weighted) → sum (soundAt i g .nodes) (soundWeights ws) [] ≡ soundSum g ws i
+  unfolding soundAt soundWeights
+  sound-sum ws =
+      by-loop (λ t. sum (sound-if t .nodes) (weights-if t ws) [] ≡ soundSum g ws i)
+      (λ l. sym (loop-idle (g .nodes) (deleteAt i ws) (ends e) l))
+      (λ n. sym (contraction (g .nodes) (without gone (g .nodes)) (deleteAt i ws) (ends e) keep gone (λ same. n (omega arith))
+      (onto-kept (g .nodes) keep gone (λ same. n (omega arith)) (smaller-node (g .nodes) e (proper-at g valid i place))) (larger-smaller e)))
+
+  -- more sets connect with the link than without
+  pub sound-more : (ws : List Weighted) → brokenSum g ws i ≤ soundSum g ws i
+  sound-more ws = sum-more (g .nodes) (deleteAt i ws) (ends e) []
+
+  -- at one direction's values
+  module _ (d : Direction) where
+    abbrev values : List Weighted
+    values = map (weighted d) (g .links)
+
+    sound-values : soundWeights values ≡ map (weighted d) (soundAt i g .links)
+    unfolding soundAt soundWeights
+    sound-values = by-loop (λ t. weights-if t values ≡ map (weighted d) (sound-if t .links)) (λ l. sym (map-delete (weighted d) i (g .links)))
+        (λ n. ap (map (moved keep gone)) (sym (map-delete (weighted d) i (g .links))) ∙ weighted-renamed d keep gone (deleteAt i (g .links)))
+
+    pub sound-exact : soundSum g values i ≡ exact d (soundAt i g)
+    unfolding exact
+    sound-exact = sym (sound-sum values) ∙ ap (λ l. sum (soundAt i g .nodes) l []) sound-values
+
+    pub broken-exact : brokenSum g values i ≡ exact d (brokenAt i g)
+    unfolding exact
+    broken-exact = ap (λ l. sum (g .nodes) l []) (sym (map-delete (weighted d) i (g .links)))
+
+    -- the pivotal identity: with chance p the network is that with link i sound, else that with it broken
+    pub pivotal : exact d g ≡ value d (linkAt g i) * exact d (soundAt i g) + (S - value d (linkAt g i)) * exact d (brokenAt i g)
+    unfolding exact
+    pivotal =
+        rw (List·getD-map (weighted d) (g .links) i (linked 0 0 (λ d. 0))) at (front (g .nodes) values [] i (weighted d (linked 0 0 (λ d. 0))) (rw (length-map (g .links) (weighted d)) place))
+        ∙ ap₂ (λ s b. value d (linkAt g i) * s + (S - value d (linkAt g i)) * b) sound-exact broken-exact
+
+    -- with the link sound no less is connected, so a truncated difference is the difference
+    pub sound-broken : exact d (brokenAt i g) ≤ exact d (soundAt i g)
+    sound-broken = rw (← sound-exact, ← broken-exact) (sound-more values)
+
+  -- ---- importance
 
   module _ (limit : ℕ) where
     abbrev s : Network
@@ -83,52 +133,86 @@ module _ (g : Network) (valid : Valid g) (equal : Equal g) (i : ℕ) (place : i 
     abbrev b : Network
     b = brokenAt i g
 
-    abbrev fewer : ℕ
-    fewer = length (g .links) - 1
-
-    -- demand 2: low × S^(m−1) ≤ S × (sound − broken) ≤ high × S^(m−1)
-    pub importance-enclosure : (importance g i limit .low * S ^ fewer ≤ S * exactImportance g i) × (S * exactImportance g i ≤ importance g i limit .high * S ^ fewer)
-    importance-enclosure =
-        let x = bracket s sound-plain limit in
-        let y = bracket b broken-plain limit in
-        let f = figure s limit in
-        let h = figure b limit in
-        let P = S ^ fewer in (
-          omega (arith, sub-mul (f .low) (h .high) P, mul-sub S (exact Down s) (exact Down b)),
-          omega (arith, sub-mul (f .high) (h .low) P, mul-sub S (exact Down s) (exact Down b)),
-        )
-
-    -- so the high is no truncated difference
-    pub broken-sound : figure b limit .low ≤ figure s limit .high
-    broken-sound =
-        le-of-mul-le-mul-right (le-trans (bracket b broken-plain limit .0) (le-trans (mul-le-mul-left S sound-broken) (bracket s sound-plain limit .1))) (power-pos fewer)
-
     pub importance-nesting : (larger : ℕ) → limit ≤ larger → (importance g i limit .low ≤ importance g i larger .low) × (importance g i larger .high ≤ importance g i limit .high)
     importance-nesting larger h =
-        let x = nesting s (sound-plain .valid) limit larger h in
-        let y = nesting b (broken-plain .valid) limit larger h in
+        let x = nesting s sound-valid limit larger h in
+        let y = nesting b broken-valid limit larger h in
         (omega arith, omega arith)
 
     pub importance-steps : importance g i limit .steps ≡ min (needed s) limit + min (needed b) limit
-    importance-steps = ap₂ _+_ (steps-taken s (sound-plain .valid) limit) (steps-taken b (broken-plain .valid) limit)
+    importance-steps = ap₂ _+_ (steps-taken s sound-valid limit) (steps-taken b broken-valid limit)
 
     pub importance-finished : importance g i limit .finished ≡ leb (needed s) limit && leb (needed b) limit
-    importance-finished = ap₂ _&&_ (finished-when s (sound-plain .valid) limit) (finished-when b (broken-plain .valid) limit)
+    importance-finished = ap₂ _&&_ (finished-when s sound-valid limit) (finished-when b broken-valid limit)
 
-    pub importance-range : (importance g i limit .low ≤ importance g i limit .high) × (importance g i limit .high ≤ S)
-    importance-range =
-        let x = low-high s (sound-plain .valid) limit (sound-plain .equal) in
-        let y = low-high b (broken-plain .valid) limit (broken-plain .equal) in
-        (omega arith, omega (arith, high-range s (sound-plain .valid) limit))
+    -- for any exact weights that the links' values enclose, each off by at most its own units
+    module _ {cs : List ℕ} {ws : List Weighted} (h : AllEnclosed cs (g .links) ws) where
+      abbrev others : ℕ
+      others = total (deleteAt i ws)
 
-    -- a finished pair is no wider than its two evaluations' bounds together
-    pub importance-width : importance g i limit .finished ≡ true
-        → importance g i limit .high ≤ importance g i limit .low + ((2 * fewer + 4 * length (s .nodes)) + (2 * fewer + 4 * length (b .nodes)))
-    importance-width done =
-        let both = and-eq-true-iff (figure s limit .finished) (figure b limit .finished) .0 done in
-        let x = span s sound-plain limit (both .0) in
-        let y = span b broken-plain limit (both .1) in
-        omega arith
+      abbrev units : ℕ
+      units = altogether (deleteAt i cs)
+
+      sound-near : (d : Direction) → Near d (budget (length (s .links)) (length (s .nodes)) + units) others (soundSum g ws i) (figure s limit)
+      sound-near d = rw (← sound-total ws, ← sound-sum ws) (near-exact s sound-valid limit (sound-encloses h) d)
+
+      broken-near : (d : Direction) → Near d (budget (length (b .links)) (length (b .nodes)) + units) others (brokenSum g ws i) (figure b limit)
+      broken-near = near-exact b broken-valid limit (all-deleted i h)
+
+      some : 0 < others
+      some = total-pos (all-deleted i h)
+
+      -- demand 2: sound minus broken
+      pub importance-enclosure : (importance g i limit .low * others ≤ S * (soundSum g ws i - brokenSum g ws i)) × (S * (soundSum g ws i - brokenSum g ws i) ≤ importance g i limit .high * others)
+      importance-enclosure =
+          let f = figure s limit in
+          let k = figure b limit in (
+            omega (arith, sub-mul (f .low) (k .high) others, mul-sub S (soundSum g ws i) (brokenSum g ws i), sound-near Down .bounds, broken-near Up .bounds),
+            omega (arith, sub-mul (f .high) (k .low) others, mul-sub S (soundSum g ws i) (brokenSum g ws i), sound-near Up .bounds, broken-near Down .bounds),
+          )
+
+      -- so the high is no truncated difference
+      pub broken-sound : figure b limit .low ≤ figure s limit .high
+      broken-sound = le-of-mul-le-mul-right (le-trans (broken-near Down .bounds) (le-trans (mul-le-mul-left S (sound-more ws)) (sound-near Up .bounds))) some
+
+      pub importance-range : (importance g i limit .low ≤ importance g i limit .high) × (importance g i limit .high ≤ S)
+      importance-range =
+          let x = low-high s sound-valid limit (sound-encloses h) in
+          let y = low-high b broken-valid limit (all-deleted i h) in
+          (omega arith, omega (arith, high-range s sound-valid limit))
+
+      -- a finished pair is no wider than its two evaluations' bounds together
+      pub importance-width : importance g i limit .finished ≡ true
+          → importance g i limit .high ≤ importance g i limit .low + ((2 * length (s .links) + 4 * length (s .nodes) + 2 * units) + (2 * length (b .links) + 4 * length (b .nodes) + 2 * units))
+      importance-width done =
+          let both = and-eq-true-iff (figure s limit .finished) (figure b limit .finished) .0 done in
+          let x = width s sound-valid limit (sound-encloses h) (both .0) in
+          let y = width b broken-valid limit (all-deleted i h) (both .1) in
+          omega arith
+
+    -- where the links' low and high values are equal
+    module _ (equal : Equal g) where
+      abbrev fewer : ℕ
+      fewer = length (g .links) - 1
+
+      -- demand 2: low × S^(m−1) ≤ S × (sound − broken) ≤ high × S^(m−1)
+      pub importance-enclosure-of-equal : (importance g i limit .low * S ^ fewer ≤ S * exactImportance g i) × (S * exactImportance g i ≤ importance g i limit .high * S ^ fewer)
+      importance-enclosure-of-equal =
+          let all : total (deleteAt i (map (weighted Down) (g .links))) ≡ S ^ fewer = ap total (sym (map-delete (weighted Down) i (g .links))) ∙ equal-total b broken-valid ∙ ap (λ n. S ^ n) broken-links in
+          rw (← all, ← sound-exact Down, ← broken-exact Down) (importance-enclosure (equal-enclosed g valid equal))
+
+      pub broken-sound-of-equal : figure b limit .low ≤ figure s limit .high
+      broken-sound-of-equal = broken-sound (equal-enclosed g valid equal)
+
+      pub importance-range-of-equal : (importance g i limit .low ≤ importance g i limit .high) × (importance g i limit .high ≤ S)
+      importance-range-of-equal = importance-range (equal-enclosed g valid equal)
+
+      pub importance-width-of-equal : importance g i limit .finished ≡ true
+          → importance g i limit .high ≤ importance g i limit .low + ((2 * fewer + 4 * length (s .nodes)) + (2 * fewer + 4 * length (b .nodes)))
+      importance-width-of-equal done =
+          let none : altogether (deleteAt i (map (λ (e : Link). e .high - e .low) (g .links))) ≡ 0 =
+          ap altogether (sym (map-delete (λ (e : Link). e .high - e .low) i (g .links))) ∙ no-units (deleteAt i (g .links)) (λ f m. equal f (mem-delete i (g .links) m)) in
+          omega (arith, importance-width (equal-enclosed g valid equal) done, none, sound-links, broken-links)
 
 -- ---- difference
 
@@ -142,14 +226,14 @@ module _ (a b x y D : ℕ) where
   times-above h k =
       subst₂ (λ (u v : ℤ). u ≤ℤ v) (sym (*ℤ-comm (pos S) (pos x -ℤ pos y) ∙ minus-mul x y S)) (sym (minus-mul a b D)) (minus-order (x * S) (y * S) (a * D) (b * D) (add-le-add h k))
 
--- a figure's bound, over both networks' powers
+-- a figure's bound, over both networks' totals
 over-both : (a N P Q D : ℕ) → D ≡ P * Q → a * P ≤ S * N → a * D ≤ N * Q * S
 over-both a N P Q D e h = rw (e, ← mul-assoc, mul-comm (N * Q) S, ← mul-assoc S N Q) (mul-le-mul-right Q h)
 
 under-both : (a N P Q D : ℕ) → D ≡ P * Q → S * N ≤ a * P → N * Q * S ≤ a * D
 under-both a N P Q D e h = rw (e, ← mul-assoc a P Q, mul-comm (N * Q) S, ← mul-assoc S N Q) (mul-le-mul-right Q h)
 
-module _ (g h : Network) (gv : Valid g) (hv : Valid h) (ge : Equal g) (he : Equal h) (limit : ℕ) where
+module _ (g h : Network) (gv : Valid g) (hv : Valid h) (limit : ℕ) where
   abbrev mg : ℕ
   mg = length (g .links)
 
@@ -161,22 +245,6 @@ module _ (g h : Network) (gv : Valid g) (hv : Valid h) (ge : Equal g) (he : Equa
 
   abbrev k : Figure
   k = figure h limit
-
-  -- demand 2: low × S^(m+m′) ≤ S × difference ≤ high × S^(m+m′)
-  pub difference-enclosure :
-      ((difference g h limit .low *ℤ pos (S ^ (mg + mh))) ≤ℤ (pos S *ℤ exactDifference g h))
-      × ((pos S *ℤ exactDifference g h) ≤ℤ (difference g h limit .high *ℤ pos (S ^ (mg + mh))))
-  difference-enclosure =
-      let x = enclosure-of-equal g gv limit ge in
-      let y = enclosure-of-equal h hv limit he in
-      let D = S ^ (mg + mh) in
-      let first : D ≡ S ^ mg * S ^ mh = pow-add S mg mh in
-      let second : D ≡ S ^ mh * S ^ mg = first ∙ mul-comm (S ^ mg) (S ^ mh) in
-      let N = exact Down g in
-      let M = exact Down h in (
-        times-below (f .low) (k .high) (N * S ^ mh) (M * S ^ mg) D (over-both (f .low) N (S ^ mg) (S ^ mh) D first (x .0)) (under-both (k .high) M (S ^ mh) (S ^ mg) D second (y .1)),
-        times-above (f .high) (k .low) (N * S ^ mh) (M * S ^ mg) D (under-both (f .high) N (S ^ mg) (S ^ mh) D first (x .1)) (over-both (k .low) M (S ^ mh) (S ^ mg) D second (y .0)),
-      )
 
   pub difference-nesting : (larger : ℕ) → limit ≤ larger
       → (difference g h limit .low ≤ℤ difference g h larger .low) × (difference g h larger .high ≤ℤ difference g h limit .high)
@@ -193,20 +261,65 @@ module _ (g h : Network) (gv : Valid g) (hv : Valid h) (ge : Equal g) (he : Equa
   pub difference-finished : difference g h limit .finished ≡ leb (needed g) limit && leb (needed h) limit
   difference-finished = ap₂ _&&_ (finished-when g gv limit) (finished-when h hv limit)
 
-  -- from −S to S, low no higher than high
-  pub difference-range : (negℤ (pos S) ≤ℤ difference g h limit .low) × (difference g h limit .low ≤ℤ difference g h limit .high) × (difference g h limit .high ≤ℤ pos S)
-  difference-range =
-      let x = low-high g gv limit ge in
-      let y = low-high h hv limit he in
-      let most = high-range g gv limit in
-      let top = high-range h hv limit in
-      (minus-order 0 S (f .low) (k .high) (omega arith), minus-order (f .low) (k .high) (f .high) (k .low) (omega arith), minus-order (f .high) (k .low) S 0 (omega arith))
+  -- for any exact weights that the links' values enclose, each off by at most its own units
+  module _ {cs bs : List ℕ} {ws us : List Weighted} (gw : AllEnclosed cs (g .links) ws) (hw : AllEnclosed bs (h .links) us) where
+    abbrev N : ℕ
+    N = sum (g .nodes) ws []
 
-  pub difference-width : difference g h limit .finished ≡ true
-      → difference g h limit .high ≤ℤ (difference g h limit .low +ℤ pos ((2 * mg + 4 * length (g .nodes)) + (2 * mh + 4 * length (h .nodes))))
-  difference-width done =
-      let both = and-eq-true-iff (f .finished) (k .finished) .0 done in
-      let x = width g gv limit ge (both .0) in
-      let y = width h hv limit he (both .1) in
-      let w = (2 * mg + 4 * length (g .nodes)) + (2 * mh + 4 * length (h .nodes)) in
-      subst (λ (z : ℤ). difference g h limit .high ≤ℤ z) (sym (minus-add (f .low) (k .high) w)) (minus-order (f .high) (k .low) (f .low + w) (k .high) (omega arith))
+    abbrev M : ℕ
+    M = sum (h .nodes) us []
+
+    abbrev T : ℕ
+    T = total ws
+
+    abbrev U : ℕ
+    U = total us
+
+    -- demand 2: plan A minus plan B
+    pub difference-enclosure :
+        ((difference g h limit .low *ℤ pos (T * U)) ≤ℤ (pos S *ℤ apart N T M U)) × ((pos S *ℤ apart N T M U) ≤ℤ (difference g h limit .high *ℤ pos (T * U)))
+    difference-enclosure =
+        let x = near-exact g gv limit gw in
+        let y = near-exact h hv limit hw in
+        let D = T * U in
+        let turned = mul-comm T U in (
+          times-below (f .low) (k .high) (N * U) (M * T) D (over-both (f .low) N T U D refl (x Down .bounds)) (under-both (k .high) M U T D turned (y Up .bounds)),
+          times-above (f .high) (k .low) (N * U) (M * T) D (under-both (f .high) N T U D refl (x Up .bounds)) (over-both (k .low) M U T D turned (y Down .bounds)),
+        )
+
+    -- from −S to S, low no higher than high
+    pub difference-range : (negℤ (pos S) ≤ℤ difference g h limit .low) × (difference g h limit .low ≤ℤ difference g h limit .high) × (difference g h limit .high ≤ℤ pos S)
+    difference-range =
+        let x = low-high g gv limit gw in
+        let y = low-high h hv limit hw in
+        let most = high-range g gv limit in
+        let top = high-range h hv limit in
+        (minus-order 0 S (f .low) (k .high) (omega arith), minus-order (f .low) (k .high) (f .high) (k .low) (omega arith), minus-order (f .high) (k .low) S 0 (omega arith))
+
+    pub difference-width : difference g h limit .finished ≡ true
+        → difference g h limit .high ≤ℤ (difference g h limit .low +ℤ pos ((2 * mg + 4 * length (g .nodes) + 2 * altogether cs) + (2 * mh + 4 * length (h .nodes) + 2 * altogether bs)))
+    difference-width done =
+        let both = and-eq-true-iff (f .finished) (k .finished) .0 done in
+        let x = width g gv limit gw (both .0) in
+        let y = width h hv limit hw (both .1) in
+        let w = (2 * mg + 4 * length (g .nodes) + 2 * altogether cs) + (2 * mh + 4 * length (h .nodes) + 2 * altogether bs) in
+        subst (λ (z : ℤ). difference g h limit .high ≤ℤ z) (sym (minus-add (f .low) (k .high) w)) (minus-order (f .high) (k .low) (f .low + w) (k .high) (omega arith))
+
+  -- where the links' low and high values are equal
+  module _ (ge : Equal g) (he : Equal h) where
+    -- demand 2: low × S^(m+m′) ≤ S × difference ≤ high × S^(m+m′)
+    pub difference-enclosure-of-equal :
+        ((difference g h limit .low *ℤ pos (S ^ (mg + mh))) ≤ℤ (pos S *ℤ exactDifference g h))
+        × ((pos S *ℤ exactDifference g h) ≤ℤ (difference g h limit .high *ℤ pos (S ^ (mg + mh))))
+    unfolding exact
+    difference-enclosure-of-equal =
+        rw (pow-add S mg mh, ← equal-total g gv, ← equal-total h hv) (difference-enclosure (equal-enclosed g gv ge) (equal-enclosed h hv he))
+
+    pub difference-range-of-equal : (negℤ (pos S) ≤ℤ difference g h limit .low) × (difference g h limit .low ≤ℤ difference g h limit .high) × (difference g h limit .high ≤ℤ pos S)
+    difference-range-of-equal = difference-range (equal-enclosed g gv ge) (equal-enclosed h hv he)
+
+    pub difference-width-of-equal : difference g h limit .finished ≡ true
+        → difference g h limit .high ≤ℤ (difference g h limit .low +ℤ pos ((2 * mg + 4 * length (g .nodes)) + (2 * mh + 4 * length (h .nodes))))
+    difference-width-of-equal done =
+        let w = rw (no-units (g .links) ge, no-units (h .links) he) at (difference-width (equal-enclosed g gv ge) (equal-enclosed h hv he) done) in
+        subst (λ (n : ℕ). difference g h limit .high ≤ℤ (difference g h limit .low +ℤ pos n)) (omega arith) w

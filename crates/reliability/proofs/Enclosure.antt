@@ -3,7 +3,7 @@ use Prim.Native.Nat.{ℕ, zero, suc, _+_, _-_, _*_, _^_, _≤_, _<_, max, zero-l
 use mathlib.Core.Path.{_≡_, refl, sym, ap, ap₂, _∙_, subst}
 use mathlib.Core.List.{List, [], _∷_, map, List·Memᴰ, List·Memᴰ·head, List·Memᴰ·tail}
 use mathlib.Core.Bool.{Bool, true, false, _&&_, false≢true, and-eq-true-iff}
-use native.Mathlib.Nat.{zero-mul, add-mul, mul-add, mul-assoc, mul-comm, mul-left-comm, add-assoc, add-comm, add-left-comm, add-le-add, mul-le-mul, mul-le-mul-left, mul-le-mul-right, le-refl, le-suc, le-trans, le-of-eq, pow-succ'}
+use native.Mathlib.Nat.{zero-mul, add-mul, mul-add, mul-assoc, mul-comm, mul-left-comm, add-assoc, add-comm, add-left-comm, mul-le-mul-left, mul-le-mul-right, le-refl, le-suc, le-trans, le-of-eq, pow-succ'}
 use native.Mathlib.Omega.{arith}
 use lib.Dec.{eqb}
 use borrow.Author.Tests.{eq-eqb}
@@ -18,17 +18,14 @@ use Rattle.reliability.specs.declared.Figure.{Figure}
 use Rattle.reliability.specs.declared.Step.{Step}
 use Rattle.reliability.specs.declared.Step.the-variants.{OneNode, Disconnected, Loop, Parallel, End, Series, Split}
 use Rattle.reliability.specs.Networks.{Network, Valid, value, linkAt}
-use Rattle.reliability.specs.Exact.{weighted, exact}
-use Rattle.reliability.specs.Rule.{bounded, side, unfinished, blend, next, leaves, Remainder, settled, rest, scaled, branches, worked, figureOf, without, budget}
+use Rattle.reliability.specs.Exact.{weighted}
+use Rattle.reliability.specs.Rule.{without, nextAt, leaves, stepAt, Remainder, settled, rest, scaled, branches, Tree, ready, grown, treeOf, bounded, side, times, blend, unfinished, run, budget}
 use Rattle.reliability.proofs.States.{sum-total}
-use Rattle.reliability.proofs.Steps.{Fits, fits, Sized, Left, left, none-left}
-use Rattle.reliability.proofs.Counts.{side-bounded}
 use Rattle.reliability.proofs.Within.{Within, equal, rounded, weaken, trans, plus, by, same}
-use Rattle.reliability.proofs.Reductions.{Reduces, reduces, total-is}
-
--- a figure x of a network g of m links, worked to its end or not
-abbrev pub Encloses : Direction → ℕ → Bool → ℕ → Network → Type 0
-Encloses d m done x g = Within d done (budget m (length (g .nodes)) * S ^ m) (x * S ^ m) (S * exact d g)
+use Rattle.reliability.proofs.Lawful.{Leaves, View, exactly, Place, Reduces, Fewer, Sized, Lawful, Choice}
+use Rattle.reliability.proofs.Runs.{side-bounded, Ranged}
+use Rattle.reliability.proofs.Steps.{view, Fits, fits-at, left-by, settled-by}
+use Rattle.reliability.proofs.Reductions.{reduces, total-is}
 
 -- one power more
 scale : (m x : ℕ) → x * S ^ suc m ≡ S * (x * S ^ m)
@@ -52,12 +49,134 @@ spend m c c′ k h =
     let all : (c + k) * (S * S ^ m) ≤ c′ * (S * S ^ m) = mul-le-mul-right (S * S ^ m) h in
     omega (arith, add-mul c k (S * S ^ m), mul-left-comm c S (S ^ m), ap (λ n. c′ * n) (pow-succ' S m))
 
--- each step leaves no more nodes, and one less where it multiplies
-abbrev Fewer : Network → Remainder → Type 0
-Fewer g (settled k) = Unit {0}
-Fewer g (rest h) = length (h .nodes) ≤ length (g .nodes)
-Fewer g (scaled k h) = length (h .nodes) < length (g .nodes)
-Fewer g (branches e sound broken) = (length (sound .nodes) ≤ length (g .nodes)) × (length (broken .nodes) ≤ length (g .nodes))
+-- a network g of m links and figures of it
+module _ {N : Type 0} (μ : View N) (d : Direction) where
+  -- a figure x of g, worked to its end or not
+  abbrev pub Encloses : ℕ → Bool → ℕ → N → Type 0
+  Encloses m done x g = Within d done (budget m (length (μ .nodes g)) * S ^ m) (x * S ^ m) (S * exactly μ d g)
+
+  abbrev pub Figured : ℕ → Figure → N → Type 0
+  Figured m f g = Encloses m (f .finished) (side d f) g
+
+  at-settled : (m : ℕ) (g : N) (k : ℕ) → length (μ .links g) ≡ m → Reduces μ d g (settled k) → Figured m (bounded (λ c. k) 0 true) g
+  at-settled m g k size e =
+      weaken d true zero-le (λ t. t) (equal d true (ap₂ (λ x n. x * S ^ n) (side-bounded d (λ c. k) 0 true) (sym size) ∙ e))
+
+  pub at-limit : (m : ℕ) (g : N) → exactly μ Up g ≤ S ^ m → Figured m unfinished g
+  at-limit m g most = go d
+    where
+      go : (c : Direction) → Within c false (budget m (length (μ .nodes g)) * S ^ m) (side c unfinished * S ^ m) (S * exactly μ c g)
+      go Down = record { bounds = le-trans (le-of-eq (zero-mul (S ^ m))) zero-le; close = λ t. absurd (false≢true t) }
+      go Up = record { bounds = mul-le-mul-left S most; close = λ t. absurd (false≢true t) }
+
+  module _ (m : ℕ) (g : N) where
+    abbrev P : ℕ
+    P = S ^ m
+
+    at-rest : (f : Figure) (h : N) → length (μ .links h) ≡ m → length (μ .nodes h) ≤ length (μ .nodes g) → Reduces μ d g (rest h) → Figured m f h → Figured (suc m) f g
+    at-rest f h size n r given =
+        let done = f .finished in
+        let step = by d S (weaken d done (le-of-eq (ap (λ k. S ^ k) size)) (λ t. refl) r) in
+        weaken d done (le-trans (omega arith) (spend m (budget m (length (μ .nodes h))) (budget (suc m) (length (μ .nodes g))) 1 (omega arith))) (λ t. t)
+        (same d (sym (scale m (side d f))) refl (trans d (by d S given) step))
+
+    at-scaled : (k : Direction → ℕ) (f : Figure) (h : N) → k d ≤ S → length (μ .links g) ≡ suc m → length (μ .nodes h) < length (μ .nodes g)
+        → Reduces μ d g (scaled k h) → Figured m f h → Figured (suc m) (times k f) g
+    at-scaled k f h kd size n r given =
+        let done = f .finished in
+        let x = side d f in
+        let first = weaken d done (le-of-eq refl) (λ t. refl) (by d P (rounded d (product-rounds d (k d) x))) in
+        let second = by d (k d) given in
+        let third = weaken d done (le-of-eq (ap (λ n. 2 * n) (ap (λ n. S ^ n) size ∙ pow-succ' S m))) (λ t. refl) r in
+        weaken d done
+        (le-trans (omega (arith, mul-le-mul-right (budget m (length (μ .nodes h)) * P) kd, mul-comm P S)) (spend m (budget m (length (μ .nodes h))) (budget (suc m) (length (μ .nodes g))) 3 (omega arith))) (λ t. t)
+        (same d (reverse P (product d (k d) x) S ∙ sym (scale m (product d (k d) x)) ∙ ap (λ y. y * S ^ suc m) (sym (side-bounded d (λ c. product c (k c) (side c f)) (f .steps) done))) refl
+        (trans d (trans d first (same d (outward (k d) x P) (mul-left-comm (k d) S (exactly μ d h)) second)) third))
+
+    at-branches : (e : Link) (sound broken : N) (s t : Figure) → value d e ≤ S
+        → (length (μ .nodes sound) ≤ length (μ .nodes g)) × (length (μ .nodes broken) ≤ length (μ .nodes g)) → Reduces μ d g (branches e sound broken)
+        → Figured m s sound → Figured m t broken → Figured (suc m) (blend e s t) g
+    at-branches e sound broken s t pe n r hs hb =
+        let done = s .finished && t .finished in
+        let p = value d e in
+        let x = side d s in
+        let y = side d t in
+        let c = budget m (length (μ .nodes g)) in
+        let first = weaken d done (le-of-eq refl) (λ t. refl) (by d P (rounded d (split-rounds d p x y))) in
+        let soundly = weaken d done (mul-le-mul-left p (mul-le-mul-right P (nodes (n .0)))) (λ both. and-eq-true-iff (s .finished) (t .finished) .0 both .0) (by d p hs) in
+        let brokenly = weaken d done (mul-le-mul-left (S - p) (mul-le-mul-right P (nodes (n .1)))) (λ both. and-eq-true-iff (s .finished) (t .finished) .0 both .1) (by d (S - p) hb) in
+        weaken d done
+        (le-trans (omega (arith, portions p (c * P) pe, mul-comm P S)) (spend m c (budget (suc m) (length (μ .nodes g))) 1 (omega arith))) (λ t. t)
+        (same d (reverse P (split d p x y) S ∙ sym (scale m (split d p x y)) ∙ ap (λ y. y * S ^ suc m) (sym (side-bounded d (λ c. split c (value c e) (side c s) (side c t)) (suc (s .steps + t .steps)) done)))
+        (ap (λ k. S * k) (sym r))
+        (trans d first (same d (gather p x (S - p) y P) (gather′ p (exactly μ d sound) (S - p) (exactly μ d broken)) (plus d soundly brokenly))))
+      where
+        nodes : {k : ℕ} → k ≤ length (μ .nodes g) → budget m k ≤ budget m (length (μ .nodes g))
+        nodes h = omega arith
+
+  -- what a step says of a figure of g, given any figures of what it leaves
+  abbrev pub Says : ℕ → N → Remainder N → Type 0
+  Says m g (settled k) = Figured (suc m) (bounded (λ c. k) 0 true) g
+  Says m g (rest h) = (f : Figure) → Figured m f h → Figured (suc m) f g
+  Says m g (scaled k h) = (f : Figure) → Figured m f h → Figured (suc m) (times k f) g
+  Says m g (branches e sound broken) = (s t : Figure) → Figured m s sound → Figured m t broken → Figured (suc m) (blend e s t) g
+
+-- a rule whose steps bear on the exact sum as their figures say
+module _ {N : Type 0} (Valid : N → Type 0) (μ : View N) (step : ℕ → N → Remainder N) (lawful : Lawful Valid μ step) where
+  pub says : (d : Direction) (m : ℕ) (g : N) → Sized Valid μ (suc m) g → (i : ℕ) → Place μ g i → Says μ d m g (step i g)
+  says d m g h i at = go (step i g) (lawful .left m g h i at) (lawful .fewer g (h .valid) i at) (lawful .reduces d g (h .valid) i at)
+    where
+      go : (r : Remainder N) → Leaves (Sized Valid μ m) r → Fewer μ g r → Reduces μ d g r → Says μ d m g r
+      go (settled k) l f r = at-settled μ d (suc m) g k (h .size) r
+      go (rest x) l f r = λ y given. at-rest μ d m g y x (l .size) f r given
+      go (scaled k x) l f r = λ y given. at-scaled μ d m g k y x (l .1 d) (h .size) f r given
+      go (branches e sound broken) l f r = λ s t hs hb. at-branches μ d m g e sound broken s t (l .2 d) f r hs hb
+
+  -- a network without links
+  pub says-settled : (d : Direction) (g : N) → Sized Valid μ 0 g → (i k : ℕ) → step i g ≡ settled k → Figured μ d 0 (bounded (λ c. k) 0 true) g
+  says-settled d g h i k e = at-settled μ d zero g k (h .size) (rw e at (lawful .reduces d g (h .valid) i (λ here. absurd (omega (arith, h .size)))))
+
+  below : (d : Direction) (m : ℕ) (g : N) → Sized Valid μ m g → exactly μ d g ≤ S ^ m
+  below d m g h =
+      le-trans (sum-total (μ .hang g) (map (weighted d) (μ .links g)) [])
+      (le-of-eq (total-is d (μ .links g) (λ e k. lawful .range g (h .valid) e k d) ∙ ap (λ n. S ^ n) (h .size)))
+
+  module _ (choose : N → ℕ) (choice : Choice μ choose) where
+    grown-encloses : (d : Direction) (m : ℕ) (g : N) → Sized Valid μ (suc m) g → (grow : N → Tree) → ((h : N) → Sized Valid μ m h → (l : ℕ) → Figured μ d m (run (grow h) l) h)
+        → (i : ℕ) (r : Remainder N) → Leaves (Sized Valid μ m) r → Says μ d m g r → (l : ℕ) → Figured μ d (suc m) (run (grown grow i r) l) g
+    unfolding grown run
+    grown-encloses d m g h grow each i (settled k) q say l = say
+    grown-encloses d m g h grow each i (rest x) q say l = say (run (grow x) l) (each x q l)
+    grown-encloses d m g h grow each i (scaled k x) q say l = say (run (grow x) l) (each x (q .0) l)
+    grown-encloses d m g h grow each i (branches e x y) q say zero = at-limit μ d (suc m) g (below Up (suc m) g h)
+    grown-encloses d m g h grow each i (branches e x y) q say (suc l) =
+        let s = run (grow x) l in
+        say s (run (grow y) (l - s .steps)) (each x (q .0) l) (each y (q .1) (l - s .steps))
+
+    pub encloses : (d : Direction) (m : ℕ) (g : N) → Sized Valid μ m g → (l : ℕ) → Figured μ d m (run (treeOf step choose m g) l) g
+    unfolding treeOf grown run
+    encloses d zero g h l =
+        let (k, b, e) = lawful .none-left g h (choose g) in
+        subst (λ (r : Remainder N). Figured μ d 0 (run (grown (λ h. ready (λ d. 0)) (choose g) r) l) g) (sym e) (says-settled d g h (choose g) k e)
+    encloses d (suc m) g h l =
+        grown-encloses d m g h (treeOf step choose m) (encloses d m) (choose g) (step (choose g) g) (lawful .left m g h (choose g) (choice g)) (says d m g h (choose g) (choice g)) l
+
+    -- all figures, factors and values of the tree are at most S
+    grown-ranged : (m : ℕ) (grow : N → Tree) → ((h : N) → Sized Valid μ m h → Ranged (grow h)) → (i : ℕ) (r : Remainder N) → Leaves (Sized Valid μ m) r → Ranged (grown grow i r)
+    unfolding grown
+    grown-ranged m grow each i (settled k) l = λ d. l
+    grown-ranged m grow each i (rest h) l = each h l
+    grown-ranged m grow each i (scaled k h) l = (l .1, each h (l .0))
+    grown-ranged m grow each i (branches e x y) l = (l .2, each x (l .0), each y (l .1))
+
+    pub ranged : (m : ℕ) (g : N) → Sized Valid μ m g → Ranged (treeOf step choose m g)
+    unfolding treeOf grown
+    ranged zero g h =
+        let (k, b, e) = lawful .none-left g h (choose g) in
+        subst (λ (r : Remainder N). Ranged (grown (λ h. ready (λ d. 0)) (choose g) r)) (sym e) (λ d. b)
+    ranged (suc m) g h = grown-ranged m (treeOf step choose m) (ranged m) (choose g) (step (choose g) g) (lawful .left m g h (choose g) (choice g))
+
+-- ---- the rule of document 01
 
 keep : Bool → ℕ → List ℕ → List ℕ
 keep t u vs = elim t [ true ↦ vs | false ↦ u ∷ vs ]
@@ -67,18 +186,18 @@ unfolding keep
 keep-length true u vs = le-suc (length vs)
 keep-length false u vs = le-refl (suc (length vs))
 
-without-length : (v : ℕ) (vs : List ℕ) → length (without v vs) ≤ length vs
+pub without-length : (v : ℕ) (vs : List ℕ) → length (without v vs) ≤ length vs
 unfolding without keep
 without-length v [] = zero-le
 without-length v (u ∷ vs) = le-trans (keep-length (eqb u v) u (without v vs)) (suc-le-suc (without-length v vs))
 
-without-less : (v : ℕ) (vs : List ℕ) → List·Memᴰ v vs → length (without v vs) < length vs
+pub without-less : (v : ℕ) (vs : List ℕ) → List·Memᴰ v vs → length (without v vs) < length vs
 unfolding without keep
 without-less v (u ∷ vs) (List·Memᴰ·head p) =
     subst (λ (t : Bool). length (keep t u (without v vs)) < suc (length vs)) (sym (eq-eqb u v (sym p))) (suc-le-suc (without-length v vs))
 without-less v (u ∷ vs) (List·Memᴰ·tail n) = suc-le-suc (le-trans (keep-length (eqb u v) u (without v vs)) (without-less v vs n))
 
-fewer : (g : Network) (s : Step) → Fits g s → Fewer g (leaves g s)
+fewer : (g : Network) (s : Step) → Fits g s → Fewer view g (leaves g s)
 unfolding leaves
 fewer g OneNode h = tt
 fewer g Disconnected h = tt
@@ -88,94 +207,11 @@ fewer g (End v i) h = without-less v (g .nodes) (h .node)
 fewer g (Series v i j) h = without-less v (g .nodes) (h .node)
 fewer g (Split i) h = (without-length (max (linkAt g i .a) (linkAt g i .b)) (g .nodes), le-refl (length (g .nodes)))
 
-at-settled : (d : Direction) (m : ℕ) (g : Network) (k : ℕ) → length (g .links) ≡ m → Reduces d g (settled k) → Encloses d m true (side d (bounded (λ c. k) 0 true)) g
-at-settled d m g k size e =
-    weaken d true zero-le (λ t. t) (equal d true (ap₂ (λ x n. x * S ^ n) (side-bounded d (λ c. k) 0 true) (sym size) ∙ e))
-
-exact-range : (d : Direction) {m : ℕ} (g : Network) → Sized m g → exact d g ≤ S ^ m
-unfolding exact
-exact-range d g s =
-    le-trans (sum-total (g .nodes) (map (weighted d) (g .links)) [])
-    (le-of-eq (total-is d (g .links) (λ e h. s .valid .proper e h .range d) ∙ ap (λ n. S ^ n) (s .size)))
-
-module _ (d : Direction) (m : ℕ) (work : Network → ℕ → Figure) (works : (h : Network) (l : ℕ) → Sized m h → Encloses d m (work h l .finished) (side d (work h l)) h) (g : Network) (limit : ℕ) where
-  abbrev P : ℕ
-  P = S ^ m
-
-  abbrev Claim : Remainder → Type 0
-  Claim r = Encloses d (suc m) (worked work limit r .finished) (side d (worked work limit r)) g
-
-  at-rest : (h : Network) → Sized m h → length (h .nodes) ≤ length (g .nodes) → Reduces d g (rest h) → Claim (rest h)
-  unfolding worked
-  at-rest h s n r =
-      let done = work h limit .finished in
-      let step = by d S (weaken d done (le-of-eq (ap (λ k. S ^ k) (s .size))) (λ t. refl) r) in
-      weaken d done (le-trans (omega arith) (spend m (budget m (length (h .nodes))) (budget (suc m) (length (g .nodes))) 1 (omega arith))) (λ t. t)
-      (same d (sym (scale m (side d (work h limit)))) refl (trans d (by d S (works h limit s)) step))
-
-  at-scaled : (k : Direction → ℕ) (h : Network) → Sized m h → k d ≤ S → length (g .links) ≡ suc m → length (h .nodes) < length (g .nodes)
-      → Reduces d g (scaled k h) → Claim (scaled k h)
-  unfolding worked
-  at-scaled k h s kd size n r =
-      let done = work h limit .finished in
-      let x = side d (work h limit) in
-      let first = weaken d done (le-of-eq refl) (λ t. refl) (by d P (rounded d (product-rounds d (k d) x))) in
-      let second = by d (k d) (works h limit s) in
-      let third = weaken d done (le-of-eq (ap (λ n. 2 * n) (ap (λ n. S ^ n) size ∙ pow-succ' S m))) (λ t. refl) r in
-      weaken d done
-      (le-trans (omega (arith, mul-le-mul-right (budget m (length (h .nodes)) * P) kd, mul-comm P S)) (spend m (budget m (length (h .nodes))) (budget (suc m) (length (g .nodes))) 3 (omega arith))) (λ t. t)
-      (same d (reverse P (product d (k d) x) S ∙ sym (scale m (product d (k d) x)) ∙ ap (λ y. y * S ^ suc m) (sym (side-bounded d (λ c. product c (k c) (side c (work h limit))) (work h limit .steps) done))) refl
-      (trans d (trans d first (same d (outward (k d) x P) (mul-left-comm (k d) S (exact d h)) second)) third))
-
-  at-limit : Sized (suc m) g → Encloses d (suc m) false (side d unfinished) g
-  at-limit s = whole d
-    where
-      whole : (c : Direction) → Encloses c (suc m) false (side c unfinished) g
-      whole Down = record { bounds = le-trans (le-of-eq (zero-mul (S ^ suc m))) zero-le; close = λ t. absurd (false≢true t) }
-      whole Up = record { bounds = mul-le-mul-left S (exact-range Up g s); close = λ t. absurd (false≢true t) }
-
-  at-branches : (e : Link) (sound broken : Network) (l : ℕ) → value d e ≤ S → Sized m sound → Sized m broken
-      → (length (sound .nodes) ≤ length (g .nodes)) × (length (broken .nodes) ≤ length (g .nodes)) → Reduces d g (branches e sound broken)
-      → let s = work sound l in let t = work broken (l - s .steps) in Encloses d (suc m) (s .finished && t .finished) (side d (blend e s t)) g
-  at-branches e sound broken l pe hs hb n r =
-      let s = work sound l in
-      let t = work broken (l - s .steps) in
-      let done = s .finished && t .finished in
-      let p = value d e in
-      let x = side d s in
-      let y = side d t in
-      let c = budget m (length (g .nodes)) in
-      let first = weaken d done (le-of-eq refl) (λ t. refl) (by d P (rounded d (split-rounds d p x y))) in
-      let soundly = weaken d done (mul-le-mul-left p (mul-le-mul-right P (nodes (n .0)))) (λ both. and-eq-true-iff (s .finished) (t .finished) .0 both .0) (by d p (works sound l hs)) in
-      let brokenly = weaken d done (mul-le-mul-left (S - p) (mul-le-mul-right P (nodes (n .1)))) (λ both. and-eq-true-iff (s .finished) (t .finished) .0 both .1) (by d (S - p) (works broken (l - s .steps) hb)) in
-      weaken d done
-      (le-trans (omega (arith, portions p (c * P) pe, mul-comm P S)) (spend m c (budget (suc m) (length (g .nodes))) 1 (omega arith))) (λ t. t)
-      (same d (reverse P (split d p x y) S ∙ sym (scale m (split d p x y)) ∙ ap (λ y. y * S ^ suc m) (sym (side-bounded d (λ c. split c (value c e) (side c s) (side c t)) (suc (s .steps + t .steps)) done)))
-      (ap (λ k. S * k) (sym r))
-      (trans d first (same d (gather p x (S - p) y P) (gather′ p (exact d sound) (S - p) (exact d broken)) (plus d soundly brokenly))))
-    where
-      nodes : {k : ℕ} → k ≤ length (g .nodes) → budget m k ≤ budget m (length (g .nodes))
-      nodes h = omega arith
-
--- one step, whichever it is
-step : (d : Direction) (m : ℕ) (work : Network → ℕ → Figure)
-    → ((h : Network) (l : ℕ) → Sized m h → Encloses d m (work h l .finished) (side d (work h l)) h)
-    → (g : Network) (limit : ℕ) → Sized (suc m) g → (r : Remainder) → Left m r → Fewer g r → Reduces d g r
-    → Encloses d (suc m) (worked work limit r .finished) (side d (worked work limit r)) g
-unfolding worked
-step d m work works g limit s (settled k) l f r = at-settled d (suc m) g k (s .size) r
-step d m work works g limit s (rest h) l f r = at-rest d m work works g limit h l f r
-step d m work works g limit s (scaled k h) l f r = at-scaled d m work works g limit k h (l .0) (l .1 d) (s .size) f r
-step d m work works g zero s (branches e sound broken) l f r = at-limit d m work works g zero s
-step d m work works g (suc limit) s (branches e sound broken) l f r =
-    at-branches d m work works g (suc limit) e sound broken limit (l .2 d) (l .0) (l .1) f r
-
-pub enclosed : (d : Direction) (m : ℕ) (g : Network) (limit : ℕ) → Sized m g → Encloses d m (figureOf m g limit .finished) (side d (figureOf m g limit)) g
-unfolding figureOf worked
-enclosed d zero g limit s =
-    let none = none-left g s in
-    let r = rw (none .2) at (reduces d g (s .valid) (next g) (fits g (s .valid))) in
-    rw (none .2, worked) (at-settled d zero g (none .0) (s .size) r)
-enclosed d (suc m) g limit s =
-    let fit = fits g (s .valid) in
-    step d m (figureOf m) (enclosed d m) g limit s (leaves g (next g)) (left m g s) (fewer g (next g) fit) (reduces d g (s .valid) (next g) fit)
+pub lawful : Lawful Valid view stepAt
+lawful = record {
+  range = λ g valid e m. valid .proper e m .range;
+  left = λ m g h i at. left-by m g h (nextAt i g) (fits-at g (h .valid) i at);
+  none-left = λ g h i. settled-by g (h .size) (nextAt i g) (fits-at g (h .valid) i (λ here. absurd (omega (arith, h .size))));
+  fewer = λ g valid i at. fewer g (nextAt i g) (fits-at g valid i at);
+  reduces = λ d g valid i at. reduces d g valid (nextAt i g) (fits-at g valid i at);
+}

@@ -1,18 +1,17 @@
 -- The plans that the paper marks P, and some more, as rows of one table: one proof computes them all from the definitions.
-use Prim.Native.Nat.{ℕ, _+_, _*_, _^_}
+use Prim.Native.Nat.{ℕ, _*_, _^_}
 use mathlib.Core.Path.{_≡_, refl}
-use mathlib.Core.List.{List, [], _∷_, map}
-use mathlib.Core.Bool.{Bool, true, false, cond, _&&_}
+use mathlib.Core.List.{List, [], _∷_}
+use mathlib.Core.Bool.{Bool, true, false, _&&_}
 use lib.Dec.{eqb}
 use lib.ListN.{length}
 use Rattle.rounding.specs.Rounding.{S, quotient, product, parallel, either, series, factor, split}
-use Rattle.rounding.specs.declared.Direction.{Direction}
-use Rattle.rounding.specs.declared.Direction.the-variants.{Down, Up}
+use Rattle.rounding.specs.declared.Direction.the-variants.{Down}
 use Rattle.reliability.specs.declared.Link.{Link}
 use Rattle.reliability.specs.declared.Figure.{Figure}
 use Rattle.reliability.specs.Networks.{Network, linked, merge, label, every, connected}
 use Rattle.reliability.specs.Exact.{sum, exact}
-use Rattle.reliability.specs.Rule.{firstAt, places, firstPair, lowest, next, deleteAt, without, leaves, worked, figureOf, figure}
+use Rattle.reliability.specs.Rule.{firstAt, places, firstPair, lowest, nextAt, deleteAt, without, leaves, grown, treeOf, run, figure}
 
 -- a row: nodes, links, limit; low, high, steps, finished; the exact figure in units
 pub record Row : Type 0 where
@@ -78,5 +77,5 @@ rows =
     ∷ []
 
 pub examples : every right rows ≡ true
-unfolding right same rows row link triangle half four five figureOf worked leaves next without deleteAt lowest firstPair places firstAt exact sum connected every label merge quotient product parallel either series factor split
+unfolding right same rows row link triangle half four five treeOf grown run leaves nextAt without deleteAt lowest firstPair places firstAt exact sum connected every label merge quotient product parallel either series factor split
 examples = refl

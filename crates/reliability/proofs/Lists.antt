@@ -2,7 +2,7 @@
 use Prim.Native.Nat.{ℕ, zero, suc, _<_}
 use mathlib.Core.Path.{_≡_, refl, sym, ap, _∙_}
 use mathlib.Core.List.{List, [], _∷_, map, List·Memᴰ, List·Memᴰ·head, List·Memᴰ·tail, List·Memᴰ·not-nil, List·Memᴰ·cases-cons}
-use mathlib.Core.Bool.{Bool, true, false, and-eq-true-iff}
+use mathlib.Core.Bool.{Bool, true, false, _||_, and-eq-true-iff}
 use mathlib.Core.Logic.{_⊎_, inl, inr, ⊎-map, ⊎-elim}
 use lib.Dec.{eqb}
 use native.Mathlib.Nat.{not-suc-le-zero, le-of-suc-le-suc}
@@ -18,6 +18,10 @@ by-eqb P u v same other = go (eqb u v) refl
     go : (b : Bool) → eqb u v ≡ b → P b
     go true e = same (eqb-true u v e)
     go false e = other (eqb-false u v e)
+
+pub or-true : (s t : Bool) → s || t ≡ true → (s ≡ true) ⊎ (t ≡ true)
+or-true true t h = inl h
+or-true false t h = inr h
 
 module _ {A : Type 0} where
   pub length-delete : {i : ℕ} (l : List A) → i < length l → suc (length (deleteAt i l)) ≡ length l

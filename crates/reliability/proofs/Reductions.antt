@@ -1,10 +1,10 @@
 -- What each step does to the exact sum, at one direction's values, with its error budget.
-use Prim.Native.Nat.{ℕ, zero, suc, _+_, _-_, _*_, _^_, _≤_, _<_, min, max, zero-le}
+use Prim.Native.Nat.{ℕ, suc, _+_, _-_, _*_, _^_, _≤_, _<_, min, max, zero-le}
 use mathlib.Core.Path.{_≡_, refl, sym, ap, ap₂, _∙_, subst}
 use mathlib.Core.List.{List, [], _∷_, map, map-map, List·Memᴰ, List·Memᴰ·head, List·Memᴰ·tail, Memᴰ·of-map}
-use mathlib.Core.Bool.{true}
+use mathlib.Core.Bool.{true, false}
 use mathlib.Core.Logic.{inl}
-use native.Mathlib.Nat.{mul-assoc, mul-comm, mul-add, add-mul, mul-left-comm, add-assoc, add-comm, add-left-comm, zero-mul, mul-zero, add-zero, add-sub-of-le, pow-suc, pow-succ', mul-le-mul, mul-le-mul-left, mul-le-mul-right, add-le-add, lt-trans, le-trans, le-of-eq}
+use native.Mathlib.Nat.{mul-assoc, mul-comm, mul-add, add-mul, mul-left-comm, add-assoc, add-comm, add-left-comm, zero-mul, mul-zero, add-zero, add-sub-of-le, pow-suc, pow-succ', mul-le-mul-left, mul-le-mul-right, add-le-add, lt-trans, le-trans, le-of-eq}
 use native.Mathlib.Omega.{arith}
 use native.Mathlib.Decide.{decLt}
 use lib.ListN.{length, getD, set, List·getD-map, length-map, length-set}
@@ -17,20 +17,14 @@ use Rattle.reliability.specs.declared.Link.{Link}
 use Rattle.reliability.specs.declared.Step.{Step}
 use Rattle.reliability.specs.declared.Step.the-variants.{OneNode, Disconnected, Loop, Parallel, End, Series, Split}
 use Rattle.reliability.specs.Networks.{Network, Valid, Ends, ends, value, linked, linkAt, connected}
-use Rattle.reliability.specs.Exact.{Weighted, weighted, sum, total, exact}
-use Rattle.reliability.specs.Rule.{inParallel, inSeries, across, deleted, removed, joined, contracted, renamed, rename, deleteAt, without, leaves, Remainder, settled, rest, scaled, branches}
+use Rattle.reliability.specs.Exact.{Weighted, weighted, sum, total}
+use Rattle.reliability.specs.Rule.{across, joined, renamed, rename, deleteAt, without, leaves}
+use Rattle.reliability.proofs.Lawful.{over, Reduces}
 use Rattle.reliability.proofs.Lists.{map-delete, map-set, mem-delete, length-delete}
-use Rattle.reliability.proofs.States.{Joins, Off, AllOff, moved, sum-more, sum-total, one-node, none-connects, loop-law, parallel-law, joined-law, end-law, series-law, contraction, front}
+use Rattle.reliability.proofs.States.{Joins, Off, AllOff, moved, sum-more, sum-total, one-node, none-connects, loop-law, parallel-law, joined-law, end-law, series-law, contraction, front, Onto, onto-kept}
 use Rattle.reliability.proofs.Validity.{proper-at, across-node, larger-smaller, smaller-node}
-use Rattle.reliability.proofs.Steps.{Fits, Clear, AtLoop, AtPair, AtEnd, AtSeries, AtSplit}
+use Rattle.reliability.proofs.Steps.{view, Fits, Leg, Clear, AtLoop, AtEnd, AtSplit}
 use Rattle.reliability.proofs.Within.{Within, equal, rounded, weaken, trans, by, same, shares}
-
--- how the exact sums of what is left bear on that of g
-abbrev pub Reduces : Direction → Network → Remainder → Type 0
-Reduces d g (settled k) = k * S ^ length (g .links) ≡ S * exact d g
-Reduces d g (rest h) = Within d true (S ^ length (h .links)) (S * exact d h) (exact d g)
-Reduces d g (scaled k h) = Within d true (2 * S ^ length (g .links)) (S * (k d * exact d h)) (S * exact d g)
-Reduces d g (branches e sound broken) = exact d g ≡ value d e * exact d sound + (S - value d e) * exact d broken
 
 module _ (d : Direction) where
   -- each link's weights come to S
@@ -44,14 +38,14 @@ module _ (d : Direction) where
 -- two links of values p and q made one, with A the sum with the joined link there, B the sum without it, and M above both
 module _ (d : Direction) (p q A B M : ℕ) (hp : p ≤ S) (hq : q ≤ S) (less : B ≤ A) (most : A ≤ M) where
   -- the sum at the joined link's value
-  abbrev mixed : ℕ → ℕ
+  abbrev pub mixed : ℕ → ℕ
   mixed v = v * A + (S - v) * B
 
   -- the weights of the two with exactly one sound
-  abbrev one : ℕ
+  abbrev pub one : ℕ
   one = p * (S - q) + (S - p) * q
 
-  in-parallel : Within d true (S * M) (S * mixed (parallel d p q)) ((p * q + one) * A + (S - p) * (S - q) * B)
+  pub in-parallel : Within d true (S * M) (S * mixed (parallel d p q)) ((p * q + one) * A + (S - p) * (S - q) * B)
   in-parallel =
       let v = parallel d p q in
       let w = rw (either-parts p q hp hq) at (rounded d (parallel-rounds d p q hp hq)) in
@@ -59,7 +53,7 @@ module _ (d : Direction) (p q A B M : ℕ) (hp : p ≤ S) (hq : q ≤ S) (less :
       (shares d (v * S) (S * (S - v)) (p * q + one) ((S - p) * (S - q)) A B M
       (omega (arith, either-parts p q hp hq, either-complement p q hp hq, parallel-range d p q hp hq)) less most w)
 
-  in-series : Within d true (S * mixed (series d p q) + S * S * M) (S * (factor d p q * mixed (series d p q))) (S * (p * q * A + one * B))
+  pub in-series : Within d true (S * mixed (series d p q) + S * S * M) (S * (factor d p q * mixed (series d p q))) (S * (p * q * A + one * B))
   in-series = go (decLt 0 (either p q))
     where
       v : ℕ
@@ -86,7 +80,7 @@ module _ (d : Direction) (p q A B M : ℕ) (hp : p ≤ S) (hq : q ≤ S) (less :
           ap₂ (λ x y. S * (x * y * A + (x * (S - y) + (S - x) * y) * B)) (z .0) (z .1) ∙ simp (zero-mul, mul-zero, add-zero) in
           weaken d true zero-le (λ t. t) (equal d true (left ∙ sym right))
 
-  series-budget : S * mixed (series d p q) + S * S * M ≤ 2 * (S * (S * M))
+  pub series-budget : S * mixed (series d p q) + S * S * M ≤ 2 * (S * (S * M))
   series-budget =
       let v = series d p q in
       let all : v * M + (S - v) * M ≡ S * M = portions v M (series-range d p q hp hq) in
@@ -96,29 +90,30 @@ module _ (d : Direction) (p q A B M : ℕ) (hp : p ≤ S) (hq : q ≤ S) (less :
 
 -- ---- a network's links with their weights
 
-weights : ℕ → ℕ → ℕ → Weighted
+unfoldable pub weights : ℕ → ℕ → ℕ → Weighted
 weights a b x = record { joins = record { a = a; b = b }; sound = x; broken = S - x }
 
-weighted-linked : (d : Direction) (a b : ℕ) (v : Direction → ℕ) → weighted d (linked a b v) ≡ weights a b (v d)
+pub weighted-linked : (d : Direction) (a b : ℕ) (v : Direction → ℕ) → weighted d (linked a b v) ≡ weights a b (v d)
 unfolding weights
 weighted-linked Down a b v = refl
 weighted-linked Up a b v = refl
 
-joins-of : (d : Direction) (es : List Link) → map (λ (e : Weighted). e .joins) (map (weighted d) es) ≡ map ends es
+pub joins-of : (d : Direction) (es : List Link) → map (λ (e : Weighted). e .joins) (map (weighted d) es) ≡ map ends es
 joins-of d es = map-map (λ (e : Weighted). e .joins) (weighted d) es
 
-weighted-renamed : (d : Direction) (keep gone : ℕ) (es : List Link) → map (moved keep gone) (map (weighted d) es) ≡ map (weighted d) (map (renamed keep gone) es)
+pub weighted-renamed : (d : Direction) (keep gone : ℕ) (es : List Link) → map (moved keep gone) (map (weighted d) es) ≡ map (weighted d) (map (renamed keep gone) es)
 unfolding weights
 weighted-renamed d keep gone [] = refl
 weighted-renamed d keep gone (e ∷ es) =
     ap₂ _∷_ (sym (weighted-linked d (rename keep gone (e .a)) (rename keep gone (e .b)) (λ c. value c e))) (weighted-renamed d keep gone es)
 
-all-off : (d : Direction) (v : ℕ) (es : List Link) → Clear v es → AllOff v (map (weighted d) es)
+pub all-off : (d : Direction) (v : ℕ) (es : List Link) → Clear v es → AllOff v (map (weighted d) es)
 all-off d v es clear e m =
     let r = Memᴰ·of-map (weighted d) es m in
     subst (λ (f : Weighted). Off v (f .joins)) (r .2) (clear (r .0) (r .1))
 
-module _ (d : Direction) (g : Network) (valid : Valid g) where
+-- each step where the nodes vs have to hang together
+module _ (d : Direction) (g : Network) (valid : Valid g) (vs : List ℕ) where
   abbrev es : List Weighted
   es = map (weighted d) (g .links)
 
@@ -134,61 +129,83 @@ module _ (d : Direction) (g : Network) (valid : Valid g) where
   in-range : (i : ℕ) → i < length (g .links) → value d (linkAt g i) ≤ S
   in-range i h = proper-at g valid i h .range d
 
-  exact-deleted : (vs : List ℕ) (i : ℕ) → exact d (record { nodes = vs; links = deleteAt i (g .links) }) ≡ sum vs (deleteAt i es) []
-  unfolding exact
-  exact-deleted vs i = ap (λ l. sum vs l []) (map-delete (weighted d) i (g .links))
+  over-deleted : (ws : List ℕ) (i : ℕ) → over d ws (deleteAt i (g .links)) ≡ sum ws (deleteAt i es) []
+  over-deleted ws i = ap (λ l. sum ws l []) (map-delete (weighted d) i (g .links))
 
-  one-node-step : Fits g OneNode → S * S ^ length (g .links) ≡ S * exact d g
-  unfolding exact
+  pub one-node-step : length vs ≤ 1 → S * S ^ length (g .links) ≡ S * over d vs (g .links)
   one-node-step h =
-      ap (λ k. S * k) (sym (one-node (g .nodes) es [] h ∙ total-is d (g .links) (λ e m. valid .proper e m .range d)))
+      ap (λ k. S * k) (sym (one-node vs es [] h ∙ total-is d (g .links) (λ e m. valid .proper e m .range d)))
 
-  disconnected-step : Fits g Disconnected → 0 * S ^ length (g .links) ≡ S * exact d g
-  unfolding exact
+  pub disconnected-step : connected vs (map ends (g .links)) ≡ false → 0 * S ^ length (g .links) ≡ S * over d vs (g .links)
   disconnected-step h =
-      zero-mul (S ^ length (g .links)) ∙ sym (ap (λ k. S * k) (none-connects (g .nodes) es (ap (connected (g .nodes)) (joins-of d (g .links)) ∙ h)) ∙ mul-zero S)
+      zero-mul (S ^ length (g .links)) ∙ sym (ap (λ k. S * k) (none-connects vs es (ap (connected vs) (joins-of d (g .links)) ∙ h)) ∙ mul-zero S)
 
-  loop-step : (i : ℕ) → AtLoop g i → Within d true (S ^ length (deleteAt i (g .links))) (S * exact d (deleted i g)) (exact d g)
-  unfolding exact
-  loop-step i h =
-      let law = rw (at i) at (loop-law (g .nodes) es i z (place (h .place)) (ap (λ (e : Weighted). e .joins .a) (at i) ∙ h .same ∙ ap (λ (e : Weighted). e .joins .b) (sym (at i)))) in
-      weaken d true zero-le (λ t. t)
-      (equal d true (sym (law ∙ ap₂ _*_ (add-sub-of-le (in-range i (h .place))) (sym (exact-deleted (g .nodes) i)))))
+  -- link i is of no account
+  abbrev Dropped : ℕ → Type 0
+  Dropped i = Within d true (S ^ length (deleteAt i (g .links))) (S * over d vs (deleteAt i (g .links))) (over d vs (g .links))
+
+  dropped : (i : ℕ) → i < length (g .links) → over d vs (g .links) ≡ (value d (linkAt g i) + (S - value d (linkAt g i))) * sum vs (deleteAt i es) [] → Dropped i
+  dropped i h law = weaken d true zero-le (λ t. t) (equal d true (sym (law ∙ ap₂ _*_ (add-sub-of-le (in-range i h)) (sym (over-deleted vs i)))))
+
+  pub loop-step : (i : ℕ) → AtLoop g i → Dropped i
+  loop-step i h = dropped i (h .place)
+      (rw (at i) at (loop-law vs es i z (place (h .place)) (ap (λ (e : Weighted). e .joins .a) (at i) ∙ h .same ∙ ap (λ (e : Weighted). e .joins .b) (sym (at i)))))
 
   leg-joins : (i v w : ℕ) → Joins (ends (linkAt g i)) v w → Joins (getD es i z .joins) v w
   leg-joins i v w j = subst (λ (e : Weighted). Joins (e .joins) v w) (sym (at i)) j
 
-  end-step : (v i : ℕ) → AtEnd g v i → exact d g ≡ value d (linkAt g i) * exact d (removed v (deleted i g))
-  unfolding exact
-  end-step v i h =
-      let e = linkAt g i in
-      let law = rw (at i) at (end-law (g .nodes) es z v (across v e) (h .leg .differ) (h .node) (across-node (g .nodes) v e (proper-at g valid i (h .place))) i (place (h .place))
-      (leg-joins i v (across v e) (h .leg .joins)) (rw (← map-delete (weighted d) i (g .links)) (all-off d v (deleteAt i (g .links)) (h .others)))) in
-      law ∙ ap (λ k. value d e * k) (sym (exact-deleted (without v (g .nodes)) i))
+  module _ (v i : ℕ) (h : AtEnd g v i) where
+    abbrev w : ℕ
+    w = across v (linkAt g i)
 
-  sound-is : (i : ℕ) → AtSplit g i → sum (g .nodes) (deleteAt i es) (ends (linkAt g i) ∷ []) ≡ exact d (contracted (linkAt g i) (deleted i g))
-  unfolding exact
-  sound-is i h =
-      let e = linkAt g i in
-      let keep = min (e .a) (e .b) in
-      let gone = max (e .a) (e .b) in
-      contraction (g .nodes) (deleteAt i es) (ends e) keep gone (λ same. h .differ (omega arith)) (smaller-node (g .nodes) e (proper-at g valid i (h .place))) (larger-smaller e)
-      ∙ ap (λ l. sum (without gone (g .nodes)) l [])
-      (ap (map (moved keep gone)) (sym (map-delete (weighted d) i (g .links))) ∙ weighted-renamed d keep gone (deleteAt i (g .links)))
+    off : AllOff v (deleteAt i es)
+    off = rw (← map-delete (weighted d) i (g .links)) (all-off d v (deleteAt i (g .links)) (h .others))
 
-  -- more sets connect the contracted network
-  pub sound-more : (i : ℕ) → AtSplit g i → exact d (deleted i g) ≤ exact d (contracted (linkAt g i) (deleted i g))
-  sound-more i h =
-      rw (exact-deleted (g .nodes) i, ← sound-is i h) (sum-more (g .nodes) (deleteAt i es) (ends (linkAt g i)) [])
+    -- an end among vs, with another of them about, hands on its part
+    pub end-step : (ws : List ℕ) → Onto w v vs ws → List·Memᴰ v vs → (o : ℕ) → (o ≡ v → ⊥) → List·Memᴰ o vs
+        → over d vs (g .links) ≡ value d (linkAt g i) * over d ws (deleteAt i (g .links))
+    end-step ws onto inv o differ ino =
+        rw (at i) at (end-law vs es z v w (h .leg .differ) ws onto inv o differ ino i (place (h .place)) (leg-joins i v w (h .leg .joins)) off)
+        ∙ ap (λ k. value d (linkAt g i) * k) (sym (over-deleted ws i))
 
-  split-step : (i : ℕ) → AtSplit g i → Reduces d g (leaves g (Split i))
-  unfolding exact leaves
-  split-step i h =
-      rw (at i) at (front (g .nodes) es [] i z (place (h .place)))
-      ∙ ap₂ (λ s b. value d (linkAt g i) * s + (S - value d (linkAt g i)) * b) (sound-is i h) (sym (exact-deleted (g .nodes) i))
+  module _ (i : ℕ) (h : AtSplit g i) (ws : List ℕ) (onto : Onto (min (linkAt g i .a) (linkAt g i .b)) (max (linkAt g i .a) (linkAt g i .b)) vs ws) where
+    abbrev sound : List Link
+    sound = map (renamed (min (linkAt g i .a) (linkAt g i .b)) (max (linkAt g i .a) (linkAt g i .b))) (deleteAt i (g .links))
 
-  -- the links that neither i nor j is
+    sound-is : sum vs (deleteAt i es) (ends (linkAt g i) ∷ []) ≡ over d ws sound
+    sound-is =
+        let e = linkAt g i in
+        let keep = min (e .a) (e .b) in
+        let gone = max (e .a) (e .b) in
+        contraction vs ws (deleteAt i es) (ends e) keep gone (λ same. h .differ (omega arith)) onto (larger-smaller e)
+        ∙ ap (λ l. sum ws l []) (ap (map (moved keep gone)) (sym (map-delete (weighted d) i (g .links))) ∙ weighted-renamed d keep gone (deleteAt i (g .links)))
+
+    pub split-step : over d vs (g .links) ≡ value d (linkAt g i) * over d ws sound + (S - value d (linkAt g i)) * over d vs (deleteAt i (g .links))
+    split-step =
+        rw (at i) at (front vs es [] i z (place (h .place)))
+        ∙ ap₂ (λ s b. value d (linkAt g i) * s + (S - value d (linkAt g i)) * b) sound-is (sym (over-deleted vs i))
+
+  -- two links made one
   module _ (i j : ℕ) (order : i < j) (there : j < length (g .links)) where
+    abbrev e : Link
+    e = linkAt g i
+
+    abbrev f : Link
+    f = linkAt g j
+
+    abbrev p : ℕ
+    p = value d (linkAt g i)
+
+    abbrev q : ℕ
+    q = value d (linkAt g j)
+
+    hp : p ≤ S
+    hp = in-range i (lt-trans order there)
+
+    hq : q ≤ S
+    hq = in-range j there
+
+    -- the links that neither i nor j is
     abbrev others : List Link
     others = deleteAt i (deleteAt j (g .links))
 
@@ -200,73 +217,90 @@ module _ (d : Direction) (g : Network) (valid : Valid g) where
         let one-less = length-delete {i = j} (g .links) there in
         ap suc (length-delete {i = i} (deleteAt j (g .links)) (omega arith)) ∙ one-less
 
-    others-power : S ^ length (g .links) ≡ S * (S * S ^ length others)
+    abbrev M : ℕ
+    M = S ^ length others
+
+    others-power : S ^ length (g .links) ≡ S * (S * M)
     others-power =
         ap (λ n. S ^ n) (sym others-length) ∙ pow-succ' S (suc (length others)) ∙ ap (λ k. S * k) (pow-succ' S (length others))
 
-    joined-length : (m : Link) → length (deleteAt j (set (g .links) i m)) ≡ suc (length others)
-    joined-length m =
+    joined-power : (m : Link) → S ^ length (deleteAt j (set (g .links) i m)) ≡ S * M
+    joined-power m =
         let l = length-set (g .links) i m in
         let one-less = length-delete {i = j} (set (g .links) i m) (omega arith) in
-        omega (arith, others-length)
+        ap (λ n. S ^ n) (omega (arith, others-length)) ∙ pow-succ' S (length others)
 
-    below-total : (vs : List ℕ) (t : List Ends) → sum vs (deleteAt i (deleteAt j es)) t ≤ S ^ length others
-    below-total vs t =
-        rw (← others-weighted) (le-trans (sum-total vs (map (weighted d) others) t)
+    below-total : (ws : List ℕ) (t : List Ends) → sum ws (deleteAt i (deleteAt j es)) t ≤ M
+    below-total ws t =
+        rw (← others-weighted) (le-trans (sum-total ws (map (weighted d) others) t)
         (le-of-eq (total-is d others (λ e m. valid .proper e (mem-delete j (g .links) (mem-delete i (deleteAt j (g .links)) m)) .range d))))
 
-    exact-joined : (vs : List ℕ) (a b : ℕ) (v : Direction → ℕ)
-        → exact d (record { nodes = vs; links = deleteAt j (set (g .links) i (linked a b v)) })
-        ≡ v d * sum vs (deleteAt i (deleteAt j es)) (record { a = a; b = b } ∷ []) + (S - v d) * sum vs (deleteAt i (deleteAt j es)) []
-    unfolding exact weights
-    exact-joined vs a b v =
-        ap (λ l. sum vs l []) (map-delete (weighted d) j (set (g .links) i (linked a b v)) ∙ ap (deleteAt j) (map-set (weighted d) (g .links) i (linked a b v) ∙ ap (set es i) (weighted-linked d a b v)))
-        ∙ joined-law vs es i j (weights a b (v d)) order (place there)
+    -- one link between a and b in their place
+    abbrev as-one : ℕ → ℕ → (Direction → ℕ) → List Link
+    as-one a b v = deleteAt j (set (g .links) i (linked a b v))
 
-  parallel-step : (i j : ℕ) → AtPair g i j → Reduces d g (leaves g (Parallel i j))
-  unfolding exact leaves
-  parallel-step i j h =
-      let e = linkAt g i in
-      let f = linkAt g j in
-      let early : i < length (g .links) = lt-trans (h .order) (h .place) in
-      let A = sum (g .nodes) (deleteAt i (deleteAt j es)) (ends e ∷ []) in
-      let B = sum (g .nodes) (deleteAt i (deleteAt j es)) [] in
-      let law = rw (at i, at j) at (parallel-law (g .nodes) es i j z (h .order) (place (h .place)) (e .a) (e .b)
-      (leg-joins i (e .a) (e .b) (inl (refl, refl))) (leg-joins j (e .a) (e .b) (h .alike))) in
-      let worked = in-parallel d (value d e) (value d f) A B (S ^ length (others i j (h .order) (h .place))) (in-range i early) (in-range j (h .place))
-      (sum-more (g .nodes) (deleteAt i (deleteAt j es)) (ends e) []) (below-total i j (h .order) (h .place) (g .nodes) (ends e ∷ [])) in
-      weaken d true (le-of-eq (sym (ap (λ n. S ^ n) (joined-length i j (h .order) (h .place) (inParallel e f)) ∙ pow-succ' S (length (others i j (h .order) (h .place)))))) (λ t. t)
-      (same d (ap (λ k. S * k) (sym (exact-joined i j (h .order) (h .place) (g .nodes) (e .a) (e .b) (λ c. parallel c (value c e) (value c f))))) (sym law) worked)
+    over-joined : (ws : List ℕ) (a b : ℕ) (v : Direction → ℕ)
+        → over d ws (as-one a b v) ≡ v d * sum ws (deleteAt i (deleteAt j es)) (record { a = a; b = b } ∷ []) + (S - v d) * sum ws (deleteAt i (deleteAt j es)) []
+    unfolding weights
+    over-joined ws a b v =
+        ap (λ l. sum ws l []) (map-delete (weighted d) j (set (g .links) i (linked a b v)) ∙ ap (deleteAt j) (map-set (weighted d) (g .links) i (linked a b v) ∙ ap (set es i) (weighted-linked d a b v)))
+        ∙ joined-law ws es i j (weights a b (v d)) order (place there)
 
-  series-step : (v i j : ℕ) → AtSeries g v i j → Reduces d g (leaves g (Series v i j))
-  unfolding exact leaves
-  series-step v i j h =
-      let e = linkAt g i in
-      let f = linkAt g j in
-      let p = value d e in
-      let q = value d f in
-      let early : i < length (g .links) = lt-trans (h .order) (h .place) in
-      let vs = without v (g .nodes) in
-      let joint : Ends = record { a = across v e; b = across v f } in
-      let A = sum vs (deleteAt i (deleteAt j es)) (joint ∷ []) in
-      let B = sum vs (deleteAt i (deleteAt j es)) [] in
-      let M = S ^ length (others i j (h .order) (h .place)) in
-      let law = rw (at i, at j) at (series-law (g .nodes) es z v (across v e) (h .first .differ) (h .node) (across-node (g .nodes) v e (proper-at g valid i early))
-      (across v f) (h .second .differ) (across-node (g .nodes) v f (proper-at g valid j (h .place))) i j (h .order) (place (h .place))
-      (leg-joins i v (across v e) (h .first .joins)) (leg-joins j v (across v f) (h .second .joins))
-      (rw (← others-weighted i j (h .order) (h .place)) (all-off d v (others i j (h .order) (h .place)) (h .others)))) in
-      let less = sum-more vs (deleteAt i (deleteAt j es)) joint [] in
-      let most = below-total i j (h .order) (h .place) vs (joint ∷ []) in
-      let worked = in-series d p q A B M (in-range i early) (in-range j (h .place)) less most in
-      weaken d true (le-trans (series-budget d p q A B M (in-range i early) (in-range j (h .place)) less most) (le-of-eq (ap (λ k. 2 * k) (sym (others-power i j (h .order) (h .place)))))) (λ t. t)
-      (same d (ap (λ k. S * (factor d p q * k)) (sym (exact-joined i j (h .order) (h .place) vs (across v e) (across v f) (λ c. series c (value c e) (value c f))))) (ap (λ k. S * k) (sym law)) worked)
+    abbrev AsOne : ℕ → ℕ → (Direction → ℕ) → Type 0
+    AsOne a b v = Within d true (S ^ length (as-one a b v)) (S * over d vs (as-one a b v)) (over d vs (g .links))
 
-pub reduces : (d : Direction) (g : Network) → Valid g → (s : Step) → Fits g s → Reduces d g (leaves g s)
-unfolding leaves
-reduces d g valid OneNode h = one-node-step d g valid h
-reduces d g valid Disconnected h = disconnected-step d g valid h
-reduces d g valid (Loop i) h = loop-step d g valid i h
-reduces d g valid (Parallel i j) h = parallel-step d g valid i j h
-reduces d g valid (End v i) h = weaken d true zero-le (λ t. t) (equal d true (ap (λ k. S * k) (sym (end-step d g valid v i h))))
-reduces d g valid (Series v i j) h = series-step d g valid v i j h
-reduces d g valid (Split i) h = split-step d g valid i h
+    -- one link, its value rounded, where the sum is that of the two
+    one-of-two : (a b : ℕ) (v : Direction → ℕ) (x : ℕ) → over d vs (g .links) ≡ x
+        → (let A = sum vs (deleteAt i (deleteAt j es)) (record { a = a; b = b } ∷ []) in let B = sum vs (deleteAt i (deleteAt j es)) [] in
+        (B ≤ A) → (A ≤ M) → Within d true (S * M) (S * (v d * A + (S - v d) * B)) x)
+        → AsOne a b v
+    one-of-two a b v x law worked =
+        weaken d true (le-of-eq (sym (joined-power (linked a b v)))) (λ t. t)
+        (same d (ap (λ k. S * k) (sym (over-joined vs a b v))) (sym law)
+        (worked (sum-more vs (deleteAt i (deleteAt j es)) (record { a = a; b = b }) []) (below-total vs (record { a = a; b = b } ∷ []))))
+
+    pub parallel-step : Joins (ends f) (e .a) (e .b) → AsOne (e .a) (e .b) (λ c. parallel c (value c e) (value c f))
+    parallel-step alike = one-of-two (e .a) (e .b) (λ c. parallel c (value c e) (value c f)) _
+        (rw (at i, at j) at (parallel-law vs es i j z order (place there) (e .a) (e .b) (leg-joins i (e .a) (e .b) (inl (refl, refl))) (leg-joins j (e .a) (e .b) alike)))
+        (λ less most. in-parallel d p q _ _ M hp hq less most)
+
+    module _ (v : ℕ) (first : Leg v e) (second : Leg v f) (clear : Clear v others) where
+      off-both : AllOff v (deleteAt i (deleteAt j es))
+      off-both = rw (← others-weighted) (all-off d v others clear)
+
+      -- at a node that is, as both its neighbours are
+      pub series-step : List·Memᴰ v vs → List·Memᴰ (across v e) vs → List·Memᴰ (across v f) vs
+          → Within d true (2 * S ^ length (g .links)) (S * (factor d p q * over d (without v vs) (as-one (across v e) (across v f) (λ c. series c (value c e) (value c f))))) (S * over d vs (g .links))
+      series-step inv inw inu =
+          let ws = without v vs in
+          let joint : Ends = record { a = across v e; b = across v f } in
+          let A = sum ws (deleteAt i (deleteAt j es)) (joint ∷ []) in
+          let B = sum ws (deleteAt i (deleteAt j es)) [] in
+          let law = rw (at i, at j) at (series-law vs es z v (across v e) (first .differ) (across v f) (second .differ) i j order (place there)
+          (leg-joins i v (across v e) (first .joins)) (leg-joins j v (across v f) (second .joins)) off-both inv inw inu) in
+          let less = sum-more ws (deleteAt i (deleteAt j es)) joint [] in
+          let most = below-total ws (joint ∷ []) in
+          weaken d true (le-trans (series-budget d p q A B M hp hq less most) (le-of-eq (ap (λ k. 2 * k) (sym others-power)))) (λ t. t)
+          (same d (ap (λ k. S * (factor d p q * k)) (sym (over-joined ws (across v e) (across v f) (λ c. series c (value c e) (value c f))))) (ap (λ k. S * k) (sym law))
+          (in-series d p q A B M hp hq less most))
+
+-- ---- the rule of document 01
+
+module _ (d : Direction) (g : Network) (valid : Valid g) where
+  abbrev merged : (i : ℕ) → AtSplit g i → Onto (min (linkAt g i .a) (linkAt g i .b)) (max (linkAt g i .a) (linkAt g i .b)) (g .nodes) (without (max (linkAt g i .a) (linkAt g i .b)) (g .nodes))
+  merged i h = onto-kept (g .nodes) _ _ (λ same. h .differ (omega arith)) (smaller-node (g .nodes) (linkAt g i) (proper-at g valid i (h .place)))
+
+  pub reduces : (s : Step) → Fits g s → Reduces view d g (leaves g s)
+  unfolding leaves
+  reduces OneNode h = one-node-step d g valid (g .nodes) h
+  reduces Disconnected h = disconnected-step d g valid (g .nodes) h
+  reduces (Loop i) h = loop-step d g valid (g .nodes) i h
+  reduces (Parallel i j) h = parallel-step d g valid (g .nodes) i j (h .order) (h .place) (h .alike)
+  reduces (End v i) h =
+      let there = across-node (g .nodes) v (linkAt g i) (proper-at g valid i (h .place)) in
+      weaken d true zero-le (λ t. t) (equal d true (ap (λ k. S * k) (sym
+      (end-step d g valid (g .nodes) v i h (without v (g .nodes)) (onto-kept (g .nodes) _ v (h .leg .differ) there) (h .node) _ (h .leg .differ) there))))
+  reduces (Series v i j) h =
+      series-step d g valid (g .nodes) i j (h .order) (h .place) v (h .first) (h .second) (h .others) (h .node)
+      (across-node (g .nodes) v (linkAt g i) (proper-at g valid i (lt-trans (h .order) (h .place)))) (across-node (g .nodes) v (linkAt g j) (proper-at g valid j (h .place)))
+  reduces (Split i) h = split-step d g valid (g .nodes) i h _ (merged i h)

@@ -109,12 +109,15 @@ front vs (f ∷ es) t (suc i) z h =
     rw (front vs es (f .joins ∷ t) i z l, front vs es t i z l, swap) (four (e .sound) (e .broken) (f .sound) (f .broken) _ _ _ _)
 
 -- step 1: a loop connects nothing more
+pub loop-idle : (vs : List ℕ) (es : List Weighted) (e : Ends) → e .a ≡ e .b → sum vs es (e ∷ []) ≡ sum vs es []
+loop-idle vs es e l = sum-same vs es (e ∷ []) [] (λ χ. (λ c. c .1, λ c. (ap χ l, c)))
+
 pub loop-law : (vs : List ℕ) (es : List Weighted) (i : ℕ) (z : Weighted) → i < length es → getD es i z .joins .a ≡ getD es i z .joins .b
     → sum vs es [] ≡ (getD es i z .sound + getD es i z .broken) * sum vs (deleteAt i es) []
 loop-law vs es i z h l =
     let e = getD es i z in
     front vs es [] i z h
-    ∙ rw (sum-same vs (deleteAt i es) (e .joins ∷ []) [] (λ χ. (λ c. c .1, λ c. (ap χ l, c)))) (sym (add-mul (e .sound) (e .broken) _))
+    ∙ rw (loop-idle vs (deleteAt i es) (e .joins) l) (sym (add-mul (e .sound) (e .broken) _))
 
 front-two : (vs : List ℕ) (es : List Weighted) (i j : ℕ) (z : Weighted) → i < j → j < length es
     → let e = getD es i z in let f = getD es j z in let others = deleteAt i (deleteAt j es) in
@@ -153,10 +156,10 @@ joined-law vs es i j m h k =
 
 -- ---- contraction
 
-rename-gone : (keep gone : ℕ) → rename keep gone gone ≡ keep
+pub rename-gone : (keep gone : ℕ) → rename keep gone gone ≡ keep
 rename-gone keep gone = rw (eq-eqb gone gone refl)
 
-rename-other : (keep gone : ℕ) {v : ℕ} → (v ≡ gone → ⊥) → rename keep gone v ≡ v
+pub rename-other : (keep gone : ℕ) {v : ℕ} → (v ≡ gone → ⊥) → rename keep gone v ≡ v
 rename-other keep gone {v} n = rw (ne-eqb v gone n)
 
 -- where both have one colour, a node keeps its own
@@ -169,30 +172,38 @@ moved-off keep gone (e ∷ es) off =
     let o = off e (List·Memᴰ·head refl) in
     rw (rename-other keep gone (o .0), rename-other keep gone (o .1), moved-off keep gone es (λ f m. off f (List·Memᴰ·tail m)))
 
-module _ (vs : List ℕ) (keep gone : ℕ) (differ : keep ≡ gone → ⊥) (ink : List·Memᴰ keep vs) where
+-- ws are the nodes vs with gone renamed to keep: what must hang together after a contraction
+pub record Onto (keep gone : ℕ) (vs ws : List ℕ) : Type 0 where
+  pub into : (v : ℕ) → List·Memᴰ v vs → List·Memᴰ (rename keep gone v) ws
+  pub from : (w : ℕ) → List·Memᴰ w ws → (v : ℕ) × List·Memᴰ v vs × (rename keep gone v ≡ w)
+
+-- where keep is among them, gone goes
+pub onto-kept : (vs : List ℕ) (keep gone : ℕ) → (keep ≡ gone → ⊥) → List·Memᴰ keep vs → Onto keep gone vs (without gone vs)
+onto-kept vs keep gone differ ink = record {
+  into = λ v m. by-eqb (λ b. List·Memᴰ (cond b keep v) (without gone vs)) v gone (λ e. without-mem gone keep vs ink differ) (λ n. without-mem gone v vs m n);
+  from = λ w m. let k = mem-without gone w vs m in (w, k .0, rename-other keep gone (k .1));
+}
+
+module _ (vs ws : List ℕ) (keep gone : ℕ) (differ : keep ≡ gone → ⊥) (onto : Onto keep gone vs ws) where
   -- s is t with gone renamed to keep: the colourings of s are those of t, and t gives keep and gone one colour
   abbrev Contracts : List Ends → List Ends → Type 0
   Contracts t s = (χ : ℕ → ℕ) → (Const χ s → Const (λ v. χ (rename keep gone v)) t) × (Const χ t → (χ keep ≡ χ gone) × Const χ s)
 
-  kept : (v : ℕ) → List·Memᴰ v vs → List·Memᴰ (rename keep gone v) (without gone vs)
-  kept v m =
-      by-eqb (λ b. List·Memᴰ (cond b keep v) (without gone vs)) v gone (λ e. without-mem gone keep vs ink differ) (λ n. without-mem gone v vs m n)
-
-  contracted-connected : (t s : List Ends) → Contracts t s → connected vs t ≡ connected (without gone vs) s
-  contracted-connected t s k = connected-eq vs (without gone vs) t s out into
+  contracted-connected : (t s : List Ends) → Contracts t s → connected vs t ≡ connected ws s
+  contracted-connected t s k = connected-eq vs ws t s out into
     where
-      out : Conn vs t → Conn (without gone vs) s
+      out : Conn vs t → Conn ws s
       out c χ h p q mp mq =
-          let pv = mem-without gone p vs mp in
-          let qv = mem-without gone q vs mq in
-          ap χ (sym (rename-other keep gone (pv .1))) ∙ c (λ v. χ (rename keep gone v)) (k χ .0 h) p q (pv .0) (qv .0) ∙ ap χ (rename-other keep gone (qv .1))
+          let (p′, np, ep) = onto .from p mp in
+          let (q′, nq, eq) = onto .from q mq in
+          ap χ (sym ep) ∙ c (λ v. χ (rename keep gone v)) (k χ .0 h) p′ q′ np nq ∙ ap χ eq
 
-      into : Conn (without gone vs) s → Conn vs t
+      into : Conn ws s → Conn vs t
       into c χ h p q mp mq =
           let r = k χ .1 h in
-          sym (rename-colour χ (r .0) p) ∙ c χ (r .1) (rename keep gone p) (rename keep gone q) (kept p mp) (kept q mq) ∙ rename-colour χ (r .0) q
+          sym (rename-colour χ (r .0) p) ∙ c χ (r .1) (rename keep gone p) (rename keep gone q) (onto .into p mp) (onto .into q mq) ∙ rename-colour χ (r .0) q
 
-  contracted : (es : List Weighted) (t s : List Ends) → Contracts t s → sum vs es t ≡ sum (without gone vs) (map (moved keep gone) es) s
+  contracted : (es : List Weighted) (t s : List Ends) → Contracts t s → sum vs es t ≡ sum ws (map (moved keep gone) es) s
   unfolding sum
   contracted [] t s k = ap (λ b. cond b 1 0) (contracted-connected t s k)
   contracted (e ∷ es) t s k =
@@ -219,10 +230,10 @@ module _ (vs : List ℕ) (keep gone : ℕ) (differ : keep ≡ gone → ⊥) (ink
   )
 
   -- links that do not touch gone stay as they are
-  shrunk : (es : List Weighted) → AllOff gone es → (t s : List Ends) → Contracts t s → sum vs es t ≡ sum (without gone vs) es s
-  shrunk es off t s k = contracted es t s k ∙ ap (λ l. sum (without gone vs) l s) (moved-off keep gone es off)
+  shrunk : (es : List Weighted) → AllOff gone es → (t s : List Ends) → Contracts t s → sum vs es t ≡ sum ws es s
+  shrunk es off t s k = contracted es t s k ∙ ap (λ l. sum ws l s) (moved-off keep gone es off)
 
-  pendant : (es : List Weighted) → AllOff gone es → (e : Ends) → Joins e gone keep → sum vs es (e ∷ []) ≡ sum (without gone vs) es []
+  pendant : (es : List Weighted) → AllOff gone es → (e : Ends) → Joins e gone keep → sum vs es (e ∷ []) ≡ sum ws es []
   pendant es off e j = shrunk es off (e ∷ []) [] (contracts e j)
 
 -- a node that no link touches, with another beside it: nothing connects
@@ -243,36 +254,43 @@ lone vs es v w differ inv inw off =
     same [] o = tt
     same (f ∷ fs) o = let p = o f (List·Memᴰ·head refl) in (dark (f .joins .a) (p .0) ∙ sym (dark (f .joins .b) (p .1)), same fs (λ g m. o g (List·Memᴰ·tail m)))
 
-module _ (vs : List ℕ) (es : List Weighted) (z : Weighted) (v w : ℕ) (differ : w ≡ v → ⊥) (inv : List·Memᴰ v vs) (inw : List·Memᴰ w vs) where
-  -- step 5: an end multiplies
-  pub end-law : (i : ℕ) → i < length es → Joins (getD es i z .joins) v w → AllOff v (deleteAt i es)
-      → sum vs es [] ≡ getD es i z .sound * sum (without v vs) (deleteAt i es) []
-  end-law i h j off =
+module _ (vs : List ℕ) (es : List Weighted) (z : Weighted) (v w : ℕ) (differ : w ≡ v → ⊥) where
+  -- step 5: an end that must hang together with another multiplies, and its neighbour takes its part
+  pub end-law : (ws : List ℕ) → Onto w v vs ws → List·Memᴰ v vs → (o : ℕ) → (o ≡ v → ⊥) → List·Memᴰ o vs
+      → (i : ℕ) → i < length es → Joins (getD es i z .joins) v w → AllOff v (deleteAt i es)
+      → sum vs es [] ≡ getD es i z .sound * sum ws (deleteAt i es) []
+  end-law ws onto inv o od ino i h j off =
       front vs es [] i z h
-      ∙ rw (pendant vs w v differ inw (deleteAt i es) off (getD es i z .joins) j, lone vs (deleteAt i es) v w differ inv inw off)
+      ∙ rw (pendant vs ws w v differ onto (deleteAt i es) off (getD es i z .joins) j, lone vs (deleteAt i es) v o od inv ino off)
       (simp (mul-zero, add-zero))
 
-  -- step 6: two links in series are one, which is broken where one of them alone is
-  pub series-law : (u : ℕ) → (u ≡ v → ⊥) → List·Memᴰ u vs → (i j : ℕ) → i < j → j < length es
-      → Joins (getD es i z .joins) v w → Joins (getD es j z .joins) v u → AllOff v (deleteAt i (deleteAt j es))
-      → let e = getD es i z in let f = getD es j z in let others = deleteAt i (deleteAt j es) in
-      sum vs es [] ≡ e .sound * f .sound * sum (without v vs) others (record { a = w; b = u } ∷ []) + (e .sound * f .broken + e .broken * f .sound) * sum (without v vs) others []
-  series-law u ud inu i j h k p q off =
-      let e = getD es i z .joins in
-      let f = getD es j z .joins in
-      let others = deleteAt i (deleteAt j es) in
-      front-two vs es i j z h k
-      ∙ rw (
-        shrunk vs w v differ inw others off (e ∷ f ∷ []) (record { a = w; b = u } ∷ []) (contracts-two vs w v differ inw u ud e f p q),
-        pendant vs u v ud inu others off f q,
-        pendant vs w v differ inw others off e p,
-        lone vs others v w differ inv inw off,
-      ) (simp (mul-zero, add-zero, ring))
+  module _ (u : ℕ) (ud : u ≡ v → ⊥) (i j : ℕ) (h : i < j) (k : j < length es) (p : Joins (getD es i z .joins) v w) (q : Joins (getD es j z .joins) v u)
+      (off : AllOff v (deleteAt i (deleteAt j es))) where
+    abbrev first : Weighted
+    first = getD es i z
+
+    abbrev second : Weighted
+    second = getD es j z
+
+    abbrev others : List Weighted
+    others = deleteAt i (deleteAt j es)
+
+    -- step 6: two links in series are one, which is broken where one of them alone is
+    pub series-law : List·Memᴰ v vs → List·Memᴰ w vs → List·Memᴰ u vs
+        → sum vs es [] ≡ first .sound * second .sound * sum (without v vs) others (record { a = w; b = u } ∷ []) + (first .sound * second .broken + first .broken * second .sound) * sum (without v vs) others []
+    series-law inv inw inu =
+        front-two vs es i j z h k
+        ∙ rw (
+          shrunk vs (without v vs) w v differ (onto-kept vs w v differ inw) others off (first .joins ∷ second .joins ∷ []) (record { a = w; b = u } ∷ []) (contracts-two vs (without v vs) w v differ (onto-kept vs w v differ inw) u ud (first .joins) (second .joins) p q),
+          pendant vs (without v vs) u v ud (onto-kept vs u v ud inu) others off (second .joins) q,
+          pendant vs (without v vs) w v differ (onto-kept vs w v differ inw) others off (first .joins) p,
+          lone vs others v w differ inv inw off,
+        ) (simp (mul-zero, add-zero, ring))
 
 -- step 7: the sets that hold a link are those of the contracted network
-pub contraction : (vs : List ℕ) (es : List Weighted) (e : Ends) (keep gone : ℕ) → (keep ≡ gone → ⊥) → List·Memᴰ keep vs → Joins e gone keep
-    → sum vs es (e ∷ []) ≡ sum (without gone vs) (map (moved keep gone) es) []
-contraction vs es e keep gone differ ink j = contracted vs keep gone differ ink es (e ∷ []) [] (contracts vs keep gone differ ink e j)
+pub contraction : (vs ws : List ℕ) (es : List Weighted) (e : Ends) (keep gone : ℕ) → (keep ≡ gone → ⊥) → Onto keep gone vs ws → Joins e gone keep
+    → sum vs es (e ∷ []) ≡ sum ws (map (moved keep gone) es) []
+contraction vs ws es e keep gone differ onto j = contracted vs ws keep gone differ onto es (e ∷ []) [] (contracts vs ws keep gone differ onto e j)
 
 -- the same links with other weights: each sound weight is the larger share of its total on the right
 abbrev pub Raised : Weighted → Weighted → Type 0

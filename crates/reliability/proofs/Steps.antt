@@ -13,16 +13,17 @@ use lib.Seq.{lt-length-set}
 use borrow.Author.Tests.{eqb-true, eqb-false, leb-true, leb-false}
 use Rattle.rounding.specs.Rounding.{S}
 use Rattle.rounding.specs.declared.Direction.{Direction}
-use Rattle.rounding.proofs.Operations.{factor-range}
+use Rattle.rounding.proofs.Operations.{series-range, factor-range}
 use Rattle.reliability.specs.declared.Link.{Link}
 use Rattle.reliability.specs.declared.Step.{Step}
 use Rattle.reliability.specs.declared.Step.the-variants.{OneNode, Disconnected, Loop, Parallel, End, Series, Split}
-use Rattle.reliability.specs.Networks.{Network, Ascending, Proper, Valid, ends, value, linkAt, label, every, connected}
-use Rattle.reliability.specs.Rule.{isLoop, touches, alike, firstAt, firstPair, lowest, endOf, seriesOf, chosen, when, _otherwise_, next, deleteAt, deleted, removed, joined, across, inSeries, leaves, Remainder, settled, rest, scaled, branches}
-use Rattle.reliability.proofs.Lists.{length-delete, getD-mem}
+use Rattle.reliability.specs.Networks.{Network, Ascending, Proper, Valid, ends, value, linked, linkAt, label, every, connected}
+use Rattle.reliability.specs.Rule.{isLoop, touches, alike, firstAt, firstPair, lowest, endOf, seriesOf, when, _otherwise_, nextAt, chosen, next, deleteAt, deleted, removed, joined, across, contracted, leaves, settled}
+use Rattle.reliability.proofs.Lists.{or-true, length-delete, getD-mem}
+use Rattle.reliability.proofs.Lawful.{Leaves, View, Place, Sized}
 use Rattle.reliability.proofs.Searches.{Answers, Holds, Fails, first-at, Placed, Pair, first-pair, lowest-of}
 use Rattle.reliability.proofs.States.{Joins, Off}
-use Rattle.reliability.proofs.Validity.{proper-at, deleted-valid, joined-valid, removed-valid, contracted-valid, parallel-proper, series-proper, mem-joined}
+use Rattle.reliability.proofs.Validity.{value-linked, proper-at, across-node, deleted-valid, joined-valid, removed-valid, contracted-valid, parallel-proper, mem-joined}
 
 -- e joins v to another node
 pub record Leg (v : ℕ) (e : Link) : Type 0 where
@@ -60,20 +61,7 @@ pub record AtSplit (g : Network) (i : ℕ) : Type 0 where
   pub place : i < length (g .links)
   pub differ : linkAt g i .a ≡ linkAt g i .b → ⊥
 
-abbrev pub Fits : Network → Step → Type 0
-Fits g OneNode = length (g .nodes) ≤ 1
-Fits g Disconnected = connected (g .nodes) (map ends (g .links)) ≡ false
-Fits g (Loop i) = AtLoop g i
-Fits g (Parallel i j) = AtPair g i j
-Fits g (End v i) = AtEnd g v i
-Fits g (Series v i j) = AtSeries g v i j
-Fits g (Split i) = AtSplit g i
-
 -- ---- what a test says
-
-or-true : (s t : Bool) → s || t ≡ true → (s ≡ true) ⊎ (t ≡ true)
-or-true true t h = inl h
-or-true false t h = inr h
 
 or-false : (s t : Bool) → s || t ≡ false → (s ≡ false) × (t ≡ false)
 or-false true t h = absurd (true≢false h)
@@ -111,36 +99,97 @@ some-link (v ∷ (u ∷ vs)) [] a c h =
     let same = and-eq-true-iff (eqb u v) (every (λ w. eqb w v) vs) .0 c .0 in
     absurd (omega (arith, a .0 u (List·Memᴰ·head refl), eqb-true u v same))
 
+abbrev pub view : View Network
+view = record { links = λ g. g .links; nodes = λ g. g .nodes; hang = λ g. g .nodes }
+
+-- ---- a network without loops
+
+module _ (g : Network) (no-loop : Fails isLoop (g .links)) where
+  leg : (v i : ℕ) → Holds (touches v) (g .links) i → Leg v (linkAt g i)
+  leg v i h = touches-leg v (linkAt g i) (h .test) (no-loop (linkAt g i) (getD-mem (g .links) _ (h .place)))
+
+  pub at-end : (v i : ℕ) → List·Memᴰ v (g .nodes) → Placed (touches v) (g .links) (i ∷ []) → AtEnd g v i
+  at-end v i n h =
+      record { node = n; place = h .0 .place; leg = leg v i (h .0); others = λ e m. misses-off v e (h .1 e m) }
+
+  pub at-series : (v i j : ℕ) → List·Memᴰ v (g .nodes) → Placed (touches v) (g .links) (i ∷ (j ∷ [])) → AtSeries g v i j
+  at-series v i j n h =
+      record { node = n; order = h .0; place = h .2 .place; first = leg v i (h .1); second = leg v j (h .2); others = λ e m. misses-off v e (h .3 e m) }
+
+  pub at-split : (vs : List ℕ) → Ascending vs → 1 < length vs → connected vs (map ends (g .links)) ≡ true → (i : ℕ) → Place view g i → AtSplit g i
+  at-split vs a h k i at =
+      let place = at (some-link vs (g .links) a k h) in
+      let e = linkAt g i in
+      record { place = place; differ = eqb-false (e .a) (e .b) (no-loop e (getD-mem (g .links) _ place)) }
+
+-- a valid network of m links
+abbrev pub SizedNetwork : ℕ → Network → Type 0
+SizedNetwork = Sized Valid view
+
+module _ (m : ℕ) (g : Network) (h : SizedNetwork (suc m) g) where
+  proper-in : {i : ℕ} → i < length (g .links) → Proper (g .nodes) (linkAt g i)
+  proper-in {i} = proper-at g (h .valid) i
+
+  pub deleted-sized : {i : ℕ} → i < length (g .links) → SizedNetwork m (deleted i g)
+  deleted-sized {i} k = record { valid = deleted-valid g (h .valid) i; size = omega (arith, length-delete (g .links) k) }
+
+  pub joined-sized : {i j : ℕ} (e : Link) → i < j → j < length (g .links) → Proper (g .nodes) e → SizedNetwork m (joined i j e g)
+  joined-sized {i} {j} e o k p = record {
+    valid = joined-valid g (h .valid) i j e o p;
+    size = omega (arith, length-delete (set (g .links) i e) (lt-length-set (g .links) i e k), length-set (g .links) i e);
+  }
+
+  removed-sized : (v : ℕ) (f : Network) → SizedNetwork m f → Clear v (f .links) → SizedNetwork m (removed v f)
+  removed-sized v f k off = record { valid = removed-valid f (k .valid) v off; size = k .size }
+
+  pub end-sized : (v i : ℕ) → AtEnd g v i → SizedNetwork m (removed v (deleted i g))
+  end-sized v i k = removed-sized v (deleted i g) (deleted-sized (k .place)) (k .others)
+
+  -- two links at v become one, of whatever value
+  pub across-sized : (v i j : ℕ) → AtSeries g v i j → (x : Direction → ℕ) → ((d : Direction) → x d ≤ S)
+      → SizedNetwork m (removed v (joined i j (linked (across v (linkAt g i)) (across v (linkAt g j)) x) g))
+  across-sized v i j k x range =
+      let e = linkAt g i in
+      let f = linkAt g j in
+      let new = linked (across v e) (across v f) x in
+      let fits : Proper (g .nodes) new = record { a-node = across-node (g .nodes) v e (proper-in (omega arith)); b-node = across-node (g .nodes) v f (proper-in (k .place)); range = λ d. rw value-linked (range d) } in
+      let off : Clear v (joined i j new g .links) =
+      λ y n. ⊎-elim (λ (r : y ≡ new). subst (λ (y : Link). Off v (ends y)) (sym r) (k .first .differ, k .second .differ)) (k .others y) (mem-joined (g .links) i j (k .order) n) in
+      removed-sized v (joined i j new g) (joined-sized new (k .order) (k .place) fits) off
+
+  pub contracted-sized : (i : ℕ) → AtSplit g i → SizedNetwork m (contracted (linkAt g i) (deleted i g))
+  contracted-sized i k =
+      let broken = deleted-sized (k .place) in
+      record { valid = contracted-valid (deleted i g) (broken .valid) (linkAt g i) (proper-in (k .place)) (k .differ); size = simp length-map (broken .size) }
+
 -- ---- which step fits
+
+abbrev pub Fits : Network → Step → Type 0
+Fits g OneNode = length (g .nodes) ≤ 1
+Fits g Disconnected = connected (g .nodes) (map ends (g .links)) ≡ false
+Fits g (Loop i) = AtLoop g i
+Fits g (Parallel i j) = AtPair g i j
+Fits g (End v i) = AtEnd g v i
+Fits g (Series v i j) = AtSeries g v i j
+Fits g (Split i) = AtSplit g i
 
 abbrev FitsIf : Network → Option Step → Type 0
 FitsIf g o = Answers (Fits g) (Unit {0}) o
 
-module _ (g : Network) (valid : Valid g) (no-loop : Fails isLoop (g .links)) where
-  leg : (v i : ℕ) → Holds (touches v) (g .links) i → Leg v (linkAt g i)
-  leg v i h = touches-leg v (linkAt g i) (h .test) (no-loop (linkAt g i) (getD-mem (g .links) _ (h .place)))
-
+module _ (g : Network) (no-loop : Fails isLoop (g .links)) where
   end-fits : (v : ℕ) → List·Memᴰ v (g .nodes) → (is : List ℕ) → Placed (touches v) (g .links) is → FitsIf g (endOf v is)
   end-fits v n [] h = tt
-  end-fits v n (i ∷ []) h =
-      record { node = n; place = h .0 .place; leg = leg v i (h .0); others = λ e m. misses-off v e (h .1 e m) }
+  end-fits v n (i ∷ []) h = at-end g no-loop v i n h
   end-fits v n (i ∷ (j ∷ r)) h = tt
 
   series-fits : (v : ℕ) → List·Memᴰ v (g .nodes) → (is : List ℕ) → Placed (touches v) (g .links) is → FitsIf g (seriesOf v is)
   series-fits v n [] h = tt
   series-fits v n (i ∷ []) h = tt
-  series-fits v n (i ∷ (j ∷ [])) h =
-      record { node = n; order = h .0; place = h .2 .place; first = leg v i (h .1); second = leg v j (h .2); others = λ e m. misses-off v e (h .3 e m) }
+  series-fits v n (i ∷ (j ∷ [])) h = at-series g no-loop v i j n h
   series-fits v n (i ∷ (j ∷ (k ∷ r))) h = tt
 
-  split-fits : leb (length (g .nodes)) 1 ≡ false → connected (g .nodes) (map ends (g .links)) ≡ true → AtSplit g (chosen g)
-  split-fits h k =
-      let place = some-link (g .nodes) (g .links) (valid .ascending) k (leb-false (length (g .nodes)) 1 h) in
-      let e = linkAt g (chosen g) in
-      record { place = place; differ = eqb-false (e .a) (e .b) (no-loop e (getD-mem (g .links) _ place)) }
-
 -- by the answer of each test in turn
-fits-by : (g : Network) → Valid g
+fits-by : (g : Network) → Valid g → (i : ℕ) → Place view g i
     → (loop : Option ℕ) → Answers (Holds isLoop (g .links)) (Fails isLoop (g .links)) loop
     → (one : Bool) → leb (length (g .nodes)) 1 ≡ one
     → (whole : Bool) → connected (g .nodes) (map ends (g .links)) ≡ whole
@@ -148,84 +197,54 @@ fits-by : (g : Network) → Valid g
     → (end : Option Step) → (Fails isLoop (g .links) → FitsIf g end)
     → (series : Option Step) → (Fails isLoop (g .links) → FitsIf g series)
     → Fits g (Option·map Loop loop otherwise when one OneNode otherwise when (not whole) Disconnected
-    otherwise Option·map (λ ij. Parallel (ij .0) (ij .1)) pair otherwise end otherwise series otherwise Split (chosen g))
-fits-by g valid (some i) l one o whole w pair p end e series s =
+    otherwise Option·map (λ ij. Parallel (ij .0) (ij .1)) pair otherwise end otherwise series otherwise Split i)
+fits-by g valid k at (some i) l one o whole w pair p end e series s =
     record { place = l .place; same = eqb-true (linkAt g i .a) (linkAt g i .b) (l .test) }
-fits-by g valid none l true o whole w pair p end e series s = leb-true (length (g .nodes)) 1 o
-fits-by g valid none l false o false w pair p end e series s = w
-fits-by g valid none l false o true w (some ij) p end e series s =
+fits-by g valid k at none l true o whole w pair p end e series s = leb-true (length (g .nodes)) 1 o
+fits-by g valid k at none l false o false w pair p end e series s = w
+fits-by g valid k at none l false o true w (some ij) p end e series s =
     record { order = p .order; place = p .place; alike = alike-joins (linkAt g (ij .0)) (linkAt g (ij .1)) (p .test) }
-fits-by g valid none l false o true w none p (some t) e series s = e l
-fits-by g valid none l false o true w none p none e (some t) s = s l
-fits-by g valid none l false o true w none p none e none s = split-fits g valid l o w
+fits-by g valid k at none l false o true w none p (some t) e series s = e l
+fits-by g valid k at none l false o true w none p none e (some t) s = s l
+fits-by g valid k at none l false o true w none p none e none s = at-split g l (g .nodes) (valid .ascending) (leb-false (length (g .nodes)) 1 o) w k at
 
-pub fits : (g : Network) → Valid g → Fits g (next g)
-unfolding next
-fits g valid =
+pub fits-at : (g : Network) → Valid g → (i : ℕ) → Place view g i → Fits g (nextAt i g)
+unfolding nextAt
+fits-at g valid i at =
     let es = g .links in
     let vs = g .nodes in
-    fits-by g valid (firstAt isLoop es) (first-at isLoop es) (leb (length vs) 1) refl (connected vs (map ends es)) refl (firstPair es) (first-pair es)
-    (lowest endOf es vs) (λ l. lowest-of (Fits g) endOf es vs (end-fits g valid l))
-    (lowest seriesOf es vs) (λ l. lowest-of (Fits g) seriesOf es vs (series-fits g valid l))
+    fits-by g valid i at (firstAt isLoop es) (first-at isLoop es) (leb (length vs) 1) refl (connected vs (map ends es)) refl (firstPair es) (first-pair es)
+    (lowest endOf es vs) (λ l. lowest-of (Fits g) endOf es vs (end-fits g l))
+    (lowest seriesOf es vs) (λ l. lowest-of (Fits g) seriesOf es vs (series-fits g l))
+
+-- the choice of document 01
+pub first-link : (g : Network) → Place view g (chosen g)
+first-link g here = here
+
+pub fits : (g : Network) → Valid g → Fits g (next g)
+fits g valid = fits-at g valid (chosen g) (first-link g)
 
 -- ---- what a step leaves
 
--- a valid network of m links
-pub record Sized (m : ℕ) (g : Network) : Type 0 where
-  pub valid : Valid g
-  pub size : length (g .links) ≡ m
-
--- what is left of a network of suc m links
-abbrev pub Left : ℕ → Remainder → Type 0
-Left m (settled k) = k ≤ S
-Left m (rest g) = Sized m g
-Left m (scaled k g) = Sized m g × ((d : Direction) → k d ≤ S)
-Left m (branches e sound broken) = Sized m sound × Sized m broken × ((d : Direction) → value d e ≤ S)
-
-module _ (m : ℕ) (g : Network) (h : Sized (suc m) g) where
+module _ (m : ℕ) (g : Network) (h : SizedNetwork (suc m) g) where
   proper : {i : ℕ} → i < length (g .links) → Proper (g .nodes) (linkAt g i)
   proper {i} = proper-at g (h .valid) i
 
-  deleted-sized : {i : ℕ} → i < length (g .links) → Sized m (deleted i g)
-  deleted-sized {i} k = record { valid = deleted-valid g (h .valid) i; size = omega (arith, length-delete (g .links) k) }
-
-  joined-sized : {i j : ℕ} (e : Link) → i < j → j < length (g .links) → Proper (g .nodes) e → Sized m (joined i j e g)
-  joined-sized {i} {j} e o k p = record {
-    valid = joined-valid g (h .valid) i j e o p;
-    size = omega (arith, length-delete (set (g .links) i e) (lt-length-set (g .links) i e k), length-set (g .links) i e);
-  }
-
-  removed-sized : (v : ℕ) (f : Network) → Sized m f → Clear v (f .links) → Sized m (removed v f)
-  removed-sized v f k off = record { valid = removed-valid f (k .valid) v off; size = k .size }
-
-  left-by : (s : Step) → Fits g s → Left m (leaves g s)
+  pub left-by : (s : Step) → Fits g s → Leaves (SizedNetwork m) (leaves g s)
   unfolding leaves
   left-by OneNode k = le-refl S
   left-by Disconnected k = zero-le
-  left-by (Loop i) k = deleted-sized (k .place)
+  left-by (Loop i) k = deleted-sized m g h (k .place)
   left-by (Parallel i j) k =
-      joined-sized _ (k .order) (k .place) (parallel-proper (g .nodes) (linkAt g i) (linkAt g j) (proper (omega arith)) (proper (k .place)))
-  left-by (End v i) k = (removed-sized v (deleted i g) (deleted-sized (k .place)) (k .others), proper (k .place) .range)
+      joined-sized m g h _ (k .order) (k .place) (parallel-proper (g .nodes) (linkAt g i) (linkAt g j) (proper (omega arith)) (proper (k .place)))
+  left-by (End v i) k = (end-sized m g h v i k, proper (k .place) .range)
   left-by (Series v i j) k =
-      let e = linkAt g i in
-      let f = linkAt g j in
-      let p : Proper (g .nodes) e = proper (omega arith) in
+      let p : Proper (g .nodes) (linkAt g i) = proper (omega arith) in
       let q = proper (k .place) in
-      let new = inSeries v e f in
-      let off : Clear v (joined i j new g .links) =
-      λ x n. ⊎-elim (λ (r : x ≡ new). subst (λ (y : Link). Off v (ends y)) (sym r) (k .first .differ, k .second .differ)) (k .others x) (mem-joined (g .links) i j (k .order) n) in (
-        removed-sized v (joined i j new g) (joined-sized new (k .order) (k .place) (series-proper (g .nodes) e f p q v)) off,
-        λ d. factor-range d (value d e) (value d f) (p .range d) (q .range d),
-      )
-  left-by (Split i) k =
-      let p = proper (k .place) in
-      let broken = deleted-sized (k .place) in
-      (record { valid = contracted-valid (deleted i g) (broken .valid) (linkAt g i) p (k .differ); size = simp length-map (broken .size) }, broken, p .range)
+      (across-sized m g h v i j k _ (λ d. series-range d _ _ (p .range d) (q .range d)), λ d. factor-range d _ _ (p .range d) (q .range d))
+  left-by (Split i) k = (contracted-sized m g h i k, deleted-sized m g h (k .place), proper (k .place) .range)
 
-pub left : (m : ℕ) (g : Network) → Sized (suc m) g → Left m (leaves g (next g))
-left m g h = left-by m g h (next g) (fits g (h .valid))
-
-settled-by : (g : Network) → length (g .links) ≡ 0 → (s : Step) → Fits g s → (k : ℕ) × (k ≤ S) × (leaves g s ≡ settled k)
+pub settled-by : (g : Network) → length (g .links) ≡ 0 → (s : Step) → Fits g s → (k : ℕ) × (k ≤ S) × (leaves g s ≡ settled k)
 unfolding leaves
 settled-by g h OneNode f = (S, le-refl S, refl)
 settled-by g h Disconnected f = (0, zero-le, refl)
@@ -234,7 +253,3 @@ settled-by g h (Parallel i j) f = absurd (omega arith)
 settled-by g h (End v i) f = absurd (omega arith)
 settled-by g h (Series v i j) f = absurd (omega arith)
 settled-by g h (Split i) f = absurd (omega arith)
-
--- a network with no link is settled
-pub none-left : (g : Network) → Sized 0 g → (k : ℕ) × (k ≤ S) × (leaves g (next g) ≡ settled k)
-none-left g h = settled-by g (h .size) (next g) (fits g (h .valid))

@@ -1,110 +1,114 @@
 -- The figure by what the step that fits leaves, and what is known of it.
-use Prim.Native.Nat.{ℕ, zero, suc, _+_, _-_, _≤_, _<_}
-use mathlib.Core.Path.{_≡_, refl, sym, ap, _∙_}
+use Prim.Native.Nat.{ℕ, zero, suc, _-_, _≤_, _<_}
+use mathlib.Core.Path.{_≡_, refl, sym, ap, ap₂, _∙_}
 use mathlib.Core.Bool.{true}
 use native.Mathlib.Nat.{not-suc-le-zero}
 use native.Mathlib.Omega.{arith}
 use lib.ListN.{length}
 use Rattle.rounding.specs.Rounding.{S}
 use Rattle.rounding.specs.declared.Direction.{Direction}
-use Rattle.rounding.specs.declared.Direction.the-variants.{Down, Up}
 use Rattle.reliability.specs.declared.Link.{Link}
-use Rattle.reliability.specs.declared.Figure.{Figure}
-use Rattle.reliability.specs.Networks.{Network, Valid, value}
-use Rattle.reliability.specs.Rule.{Remainder, settled, rest, scaled, branches, next, leaves, bounded, times, blend, unfinished, worked, figureOf, figure, side}
-use Rattle.reliability.proofs.Steps.{Sized, Left, left, none-left}
-use Rattle.reliability.proofs.Counts.{steps-of, range-of}
+use Rattle.reliability.specs.Networks.{Network, Valid}
+use Rattle.reliability.specs.Rule.{Remainder, settled, rest, scaled, branches, chosen, next, leaves, stepAt, Tree, ready, multiplied, fork, grown, treeOf, tree, bounded, side, times, blend, unfinished, run, figure}
+use Rattle.reliability.proofs.Lawful.{Leaves, View, Sized, Lawful, Choice}
+use Rattle.reliability.proofs.Runs.{steps, range}
+use Rattle.reliability.proofs.Steps.{view, SizedNetwork, first-link}
+use Rattle.reliability.proofs.Enclosure.{lawful, ranged}
 
--- a valid network with a link less than g
-pub record Less (g h : Network) : Type 0 where
-  pub valid : Valid h
-  pub size : suc (length (h .links)) ≡ length (g .links)
+-- ---- one step of a tree
 
--- what is known of what is left
-abbrev pub Rest : Network → Remainder → Type 0
-Rest g (settled k) = k ≤ S
-Rest g (rest h) = Less g h
-Rest g (scaled k h) = Less g h × ((d : Direction) → k d ≤ S)
-Rest g (branches e s b) = Less g s × Less g b × ((d : Direction) → value d e ≤ S)
+module _ {N : Type 0} (Valid : N → Type 0) (μ : View N) (step : ℕ → N → Remainder N) (lawful : Lawful Valid μ step) (choose : N → ℕ) (choice : Choice μ choose) where
+  abbrev of : N → Tree
+  of g = treeOf step choose (length (μ .links g)) g
 
-module _ (g : Network) (valid : Valid g) where
-  less : (m : ℕ) → length (g .links) ≡ suc m → (h : Network) → Sized m h → Less g h
-  less m e h s = record { valid = s .valid; size = ap suc (s .size) ∙ sym e }
+  same-size : (m : ℕ) (h : N) → Sized Valid μ m h → treeOf step choose m h ≡ of h
+  same-size m h s = ap (λ n. treeOf step choose n h) (sym (s .size))
 
-  known : (m : ℕ) → length (g .links) ≡ suc m → (r : Remainder) → Left m r → Rest g r
-  known m e (settled k) l = l
-  known m e (rest h) l = less m e h l
-  known m e (scaled k h) l = (less m e h (l .0), l .1)
-  known m e (branches f s b) l = (less m e s (l .0), less m e b (l .1), l .2)
+  grown-alike : (m i : ℕ) (r : Remainder N) → Leaves (Sized Valid μ m) r → grown (treeOf step choose m) i r ≡ grown of i r
+  unfolding grown
+  grown-alike m i (settled k) l = refl
+  grown-alike m i (rest h) l = same-size m h l
+  grown-alike m i (scaled k h) l = ap (multiplied k) (same-size m h (l .0))
+  grown-alike m i (branches e x y) l = ap₂ (fork i e) (same-size m x (l .0)) (same-size m y (l .1))
 
-  pub remains : Rest g (leaves g (next g))
-  remains = go (length (g .links)) refl
+  -- the tree is grown from the trees of what the step leaves
+  pub unrolled : (g : N) → Valid g → of g ≡ grown of (choose g) (step (choose g) g)
+  unfolding treeOf grown
+  unrolled g valid = go (length (μ .links g)) refl
     where
-      go : (m : ℕ) → length (g .links) ≡ m → Rest g (leaves g (next g))
-      go zero e = let n = none-left g (record { valid = valid; size = e }) in rw (n .2) (n .1)
-      go (suc m) e = known m e (leaves g (next g)) (left m g (record { valid = valid; size = e }))
+      go : (m : ℕ) → length (μ .links g) ≡ m → treeOf step choose m g ≡ grown of (choose g) (step (choose g) g)
+      go zero e =
+          let s = lawful .none-left g (record { valid = valid; size = e }) (choose g) .2 in
+          ap (grown (λ h. ready (λ d. 0)) (choose g)) s ∙ sym (ap (grown of (choose g)) s)
+      go (suc m) e = grown-alike m (choose g) (step (choose g) g) (lawful .left m g (record { valid = valid; size = e }) (choose g) (choice g))
 
-  pub figure-settled : (limit k : ℕ) → leaves g (next g) ≡ settled k → bounded (λ d. k) 0 true ≡ figure g limit
-  unfolding figureOf worked
-  figure-settled limit k e = go (length (g .links))
-    where
-      go : (m : ℕ) → bounded (λ d. k) 0 true ≡ figureOf m g limit
-      go zero = rw e
-      go (suc m) = rw e
-
-  -- one step of the figure, where links are left
-  unrolled : (limit : ℕ) (h : Network) → suc (length (h .links)) ≡ length (g .links) → worked (figureOf (length (h .links))) limit (leaves g (next g)) ≡ figure g limit
-  unfolding figureOf
-  unrolled limit h e = ap (λ m. figureOf m g limit) e
-
-  pub figure-rest : (limit : ℕ) (h : Network) → leaves g (next g) ≡ rest h → figure h limit ≡ figure g limit
-  unfolding worked
-  figure-rest limit h e = let l = rw e at remains in rw e at (unrolled limit h (l .size))
-
-  pub figure-scaled : (limit : ℕ) (k : Direction → ℕ) (h : Network) → leaves g (next g) ≡ scaled k h → times k (figure h limit) ≡ figure g limit
-  unfolding worked
-  figure-scaled limit k h e = let l = rw e at remains in rw e at (unrolled limit h (l .0 .size))
-
-  pub figure-limit : (e : Link) (s b : Network) → leaves g (next g) ≡ branches e s b → unfinished ≡ figure g 0
-  unfolding worked
-  figure-limit e s b h = let l = rw h at remains in rw h at (unrolled 0 s (l .0 .size))
-
-  pub figure-branches : (limit : ℕ) (e : Link) (s b : Network) → leaves g (next g) ≡ branches e s b → 0 < limit
-      → blend e (figure s (limit - 1)) (figure b (limit - 1 - figure s (limit - 1) .steps)) ≡ figure g limit
-  unfolding worked
-  figure-branches zero e s b h pos = absurd (not-suc-le-zero pos)
-  figure-branches (suc l) e s b h pos =
-      let k = rw h at remains in
-      let same : length (b .links) ≡ length (s .links) = let x = k .0 .size in let y = k .1 .size in omega arith in
-      let less : suc l - 1 ≡ l = omega arith in
-      ap (λ n. blend e (figure s n) (figure b (n - figure s n .steps))) less
-      ∙ ap (λ m. blend e (figure s l) (figureOf m b (l - figure s l .steps))) same
-      ∙ rw h at (unrolled (suc l) s (k .0 .size))
+-- ---- the rule of document 01
 
 -- a valid network with fewer links than g
 pub record Below (g h : Network) : Type 0 where
   pub valid : Valid h
   pub fewer : length (h .links) < length (g .links)
 
-less-below : {g h : Network} → Less g h → Below g h
-less-below l = let e = l .size in record { valid = l .valid; fewer = omega arith }
-
 module _ (g : Network) (valid : Valid g) where
+  by-step : (r : Remainder Network) → leaves g (next g) ≡ r → tree g ≡ grown tree (chosen g) r
+  by-step r e = unrolled Valid view stepAt lawful chosen first-link g valid ∙ ap (grown tree (chosen g)) e
+
+  pub figure-settled : (limit k : ℕ) → leaves g (next g) ≡ settled k → bounded (λ d. k) 0 true ≡ figure g limit
+  unfolding grown run
+  figure-settled limit k e = sym (ap (λ t. run t limit) (by-step (settled k) e))
+
+  pub figure-rest : (limit : ℕ) (h : Network) → leaves g (next g) ≡ rest h → figure h limit ≡ figure g limit
+  unfolding grown
+  figure-rest limit h e = sym (ap (λ t. run t limit) (by-step (rest h) e))
+
+  pub figure-scaled : (limit : ℕ) (k : Direction → ℕ) (h : Network) → leaves g (next g) ≡ scaled k h → times k (figure h limit) ≡ figure g limit
+  unfolding grown run
+  figure-scaled limit k h e = sym (ap (λ t. run t limit) (by-step (scaled k h) e))
+
+  pub figure-limit : (e : Link) (s b : Network) → leaves g (next g) ≡ branches e s b → unfinished ≡ figure g 0
+  unfolding grown run
+  figure-limit e s b h = sym (ap (λ t. run t 0) (by-step (branches e s b) h))
+
+  pub figure-branches : (limit : ℕ) (e : Link) (s b : Network) → leaves g (next g) ≡ branches e s b → 0 < limit
+      → blend e (figure s (limit - 1)) (figure b (limit - 1 - figure s (limit - 1) .steps)) ≡ figure g limit
+  unfolding grown run
+  figure-branches zero e s b h pos = absurd (not-suc-le-zero pos)
+  figure-branches (suc l) e s b h pos =
+      let less : suc l - 1 ≡ l = omega arith in
+      ap (λ n. blend e (figure s n) (figure b (n - figure s n .steps))) less ∙ sym (ap (λ t. run t (suc l)) (by-step (branches e s b) h))
+
+  -- what is left
+  remains : Leaves (Below g) (leaves g (next g))
+  remains = go (length (g .links)) refl
+    where
+      less : (m : ℕ) → length (g .links) ≡ suc m → (h : Network) → SizedNetwork m h → Below g h
+      less m e h s = let k = s .size in record { valid = s .valid; fewer = omega arith }
+
+      known : (m : ℕ) → length (g .links) ≡ suc m → (r : Remainder Network) → Leaves (SizedNetwork m) r → Leaves (Below g) r
+      known m e (settled k) l = l
+      known m e (rest h) l = less m e h l
+      known m e (scaled k h) l = (less m e h (l .0), l .1)
+      known m e (branches f s b) l = (less m e s (l .0), less m e b (l .1), l .2)
+
+      go : (m : ℕ) → length (g .links) ≡ m → Leaves (Below g) (leaves g (next g))
+      go zero e = let n = lawful .none-left g (record { valid = valid; size = e }) (chosen g) in rw (n .2) (n .1)
+      go (suc m) e = known m e (leaves g (next g)) (lawful .left m g (record { valid = valid; size = e }) (chosen g) (first-link g))
+
   pub below-rest : (h : Network) → leaves g (next g) ≡ rest h → Below g h
-  below-rest h e = less-below (rw e at (remains g valid))
+  below-rest h e = rw e at remains
 
   pub below-scaled : (k : Direction → ℕ) (h : Network) → leaves g (next g) ≡ scaled k h → Below g h
-  below-scaled k h e = let l = rw e at (remains g valid) in less-below (l .0)
+  below-scaled k h e = let l = rw e at remains in l .0
 
   pub below-sound : (e : Link) (s b : Network) → leaves g (next g) ≡ branches e s b → Below g s
-  below-sound e s b h = let l = rw h at (remains g valid) in less-below (l .0)
+  below-sound e s b h = let l = rw h at remains in l .0
 
   pub below-broken : (e : Link) (s b : Network) → leaves g (next g) ≡ branches e s b → Below g b
-  below-broken e s b h = let l = rw h at (remains g valid) in less-below (l .1)
+  below-broken e s b h = let l = rw h at remains in l .1
 
 -- what is known of a figure: its range, its steps
 pub figure-range : (d : Direction) (g : Network) (limit : ℕ) → Valid g → side d (figure g limit) ≤ S
-figure-range d g limit valid = range-of d (length (g .links)) g limit (record { valid = valid; size = refl })
+figure-range d g limit valid = range (tree g) (ranged Valid view stepAt lawful chosen first-link (length (g .links)) g (record { valid = valid; size = refl })) d limit
 
 pub figure-steps : (g : Network) (limit : ℕ) → Valid g → figure g limit .steps ≤ limit
-figure-steps g limit valid = omega (arith, steps-of (length (g .links)) g limit (record { valid = valid; size = refl }))
+figure-steps g limit valid = omega (arith, steps (tree g) limit)

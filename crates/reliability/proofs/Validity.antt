@@ -22,7 +22,7 @@ pub value-linked : (d : Direction) (a b : ℕ) (v : Direction → ℕ) → value
 value-linked Down a b v = refl
 value-linked Up a b v = refl
 
-ascending-without : (v : ℕ) (vs : List ℕ) → Ascending vs → Ascending (without v vs)
+pub ascending-without : (v : ℕ) (vs : List ℕ) → Ascending vs → Ascending (without v vs)
 unfolding Ascending without
 ascending-without v [] h = tt
 ascending-without v (u ∷ vs) h = go (eqb u v) (ascending-without v vs (h .1))
@@ -54,6 +54,9 @@ larger-smaller e = go (decLe (e .a) (e .b))
 
 pub smaller-node : (vs : List ℕ) (e : Link) → Proper vs e → List·Memᴰ (min (e .a) (e .b)) vs
 smaller-node vs e p = ⊎-elim (λ q. Memᴰ·cast (sym (q .1)) (p .b-node)) (λ q. Memᴰ·cast (sym (q .0)) (p .a-node)) (larger-smaller e)
+
+pub larger-node : (vs : List ℕ) (e : Link) → Proper vs e → List·Memᴰ (max (e .a) (e .b)) vs
+larger-node vs e p = ⊎-elim (λ q. Memᴰ·cast (sym (q .0)) (p .a-node)) (λ q. Memᴰ·cast (sym (q .1)) (p .b-node)) (larger-smaller e)
 
 module _ (vs : List ℕ) (e f : Link) (p : Proper vs e) (q : Proper vs f) where
   pub parallel-proper : Proper vs (inParallel e f)

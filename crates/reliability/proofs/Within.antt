@@ -1,8 +1,8 @@
 -- Directed bounds with an error budget: each operation's share is stated once and added up.
 use Prim.Native.Nat.{ℕ, _+_, _-_, _*_, _≤_, _<_}
 use mathlib.Core.Path.{_≡_, refl, sym, ap, _∙_}
-use mathlib.Core.Bool.{Bool, true, false}
-use native.Mathlib.Nat.{mul-add, add-mul, mul-le-mul, mul-le-mul-left, mul-le-mul-right, le-refl, le-trans, le-of-eq, le-of-lt}
+use mathlib.Core.Bool.{Bool, true}
+use native.Mathlib.Nat.{mul-add, add-mul, mul-le-mul, mul-le-mul-left, le-trans, le-of-eq, le-of-lt, le-of-mul-le-mul-right}
 use native.Mathlib.Omega.{arith}
 use Rattle.rounding.specs.declared.Direction.{Direction}
 use Rattle.rounding.specs.declared.Direction.the-variants.{Down, Up}
@@ -47,6 +47,11 @@ module _ {done : Bool} {e a b : ℕ} where
 pub same : (d : Direction) {done : Bool} {e a b a′ b′ : ℕ} → a ≡ a′ → b ≡ b′ → Within d done e a b → Within d done e a′ b′
 same Down h k w = record { bounds = let x = w .bounds in omega arith; close = λ t. let x = w .close t in omega arith }
 same Up h k w = record { bounds = let x = w .bounds in omega arith; close = λ t. let x = w .close t in omega arith }
+
+-- over another total
+pub cancelled : (d : Direction) {done : Bool} {e a b : ℕ} (k : ℕ) → 0 < k → Within d done (e * k) (a * k) (b * k) → Within d done e a b
+cancelled Down {e = e} {a = a} k pos w = record { bounds = le-of-mul-le-mul-right (w .bounds) pos; close = λ t. le-of-mul-le-mul-right (le-trans (w .close t) (le-of-eq (sym (add-mul a e k)))) pos }
+cancelled Up {e = e} {b = b} k pos w = record { bounds = le-of-mul-le-mul-right (w .bounds) pos; close = λ t. le-of-mul-le-mul-right (le-trans (w .close t) (le-of-eq (sym (add-mul b e k)))) pos }
 
 -- two shares of one total, of A and of B below it: the larger share weighs more, by its excess over A at most
 heavier : (x y x′ y′ A B : ℕ) → x + y ≡ x′ + y′ → x ≤ x′ → B ≤ A → (x * A + y * B ≤ x′ * A + y′ * B) × (x′ * A + y′ * B ≤ x * A + y * B + (x′ - x) * A)

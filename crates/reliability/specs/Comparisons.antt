@@ -1,15 +1,16 @@
 -- Importance of a link and difference of two networks.
 use Prim.Native.Nat.{ℕ, _+_, _-_, _*_, _^_}
-use mathlib.Core.Bool.{Bool, true, false, _&&_}
+use mathlib.Core.List.{List, [], _∷_}
+use mathlib.Core.Bool.{true, false, _&&_}
 use lib.ListN.{length}
 use lib.IntN.{ℤ, pos, _-ℤ_}
 use Rattle.rounding.specs.Rounding.{S}
 use Rattle.rounding.specs.declared.Direction.the-variants.{Down}
 use Rattle.reliability.specs.declared.Figure.{Figure}
 use Rattle.reliability.specs.declared.Difference.{Difference}
-use Rattle.reliability.specs.Networks.{Network, linkAt}
-use Rattle.reliability.specs.Exact.{exact}
-use Rattle.reliability.specs.Rule.{isLoop, deleted, contracted, figure}
+use Rattle.reliability.specs.Networks.{Network, linkAt, ends}
+use Rattle.reliability.specs.Exact.{Weighted, sum, exact}
+use Rattle.reliability.specs.Rule.{isLoop, deleteAt, deleted, contracted, figure}
 
 -- the network with link i broken: deletion
 abbrev pub brokenAt : ℕ → Network → Network
@@ -26,6 +27,13 @@ lessened s b = record { low = s .low - b .high; high = s .high - b .low; steps =
 abbrev pub importance : Network → ℕ → ℕ → Figure
 importance g i limit = lessened (figure (soundAt i g) limit) (figure (brokenAt i g) limit)
 
+-- the sums with link i sound and with it broken, by exact weights ws of all links: over the total of the others' weights
+abbrev pub soundSum : Network → List Weighted → ℕ → ℕ
+soundSum g ws i = sum (g .nodes) (deleteAt i ws) (ends (linkAt g i) ∷ [])
+
+abbrev pub brokenSum : Network → List Weighted → ℕ → ℕ
+brokenSum g ws i = sum (g .nodes) (deleteAt i ws) []
+
 -- the exact importance of link i, over S to the power m - 1
 abbrev pub exactImportance : Network → ℕ → ℕ
 exactImportance g i = exact Down (soundAt i g) - exact Down (brokenAt i g)
@@ -37,6 +45,10 @@ minus f h = record { low = pos (f .low) -ℤ pos (h .high); high = pos (f .high)
 abbrev pub difference : Network → Network → ℕ → Difference
 difference g h limit = minus (figure g limit) (figure h limit)
 
+-- N over T less M over U, over T times U
+abbrev pub apart : ℕ → ℕ → ℕ → ℕ → ℤ
+apart N T M U = pos (N * U) -ℤ pos (M * T)
+
 -- the exact difference, over S to the power of both networks' links together
 abbrev pub exactDifference : Network → Network → ℤ
-exactDifference g h = pos (exact Down g * S ^ length (h .links)) -ℤ pos (exact Down h * S ^ length (g .links))
+exactDifference g h = apart (exact Down g) (S ^ length (g .links)) (exact Down h) (S ^ length (h .links))

@@ -1,5 +1,5 @@
 -- Exact reliability: the sum over the sets of links that connect all nodes.
-use Prim.Native.Nat.{ℕ, _+_, _-_, _*_, _≤_}
+use Prim.Native.Nat.{ℕ, _+_, _-_, _*_, _≤_, _<_}
 use mathlib.Core.Path.{_≡_}
 use mathlib.Core.List.{List, [], _∷_, map, List·Memᴰ}
 use mathlib.Core.Bool.{cond}
@@ -32,15 +32,24 @@ weighted d e = record { joins = ends e; sound = value d e; broken = S - value d 
 unfoldable pub exact : Direction → Network → ℕ
 exact d g = sum (g .nodes) (map (weighted d) (g .links)) []
 
--- a link's low and high value enclose its exact weights
-pub record Enclosed (e : Link) (w : Weighted) : Type 0 where
+-- a link's low and high value enclose its exact weights, and each is off by at most c units
+pub record Enclosed (c : ℕ) (e : Link) (w : Weighted) : Type 0 where
   pub joins : ends e ≡ w .joins
+  pub some : 0 < w .sound + w .broken
   pub low : e .low * (w .sound + w .broken) ≤ S * w .sound
+  pub low-near : S * w .sound ≤ e .low * (w .sound + w .broken) + c * (w .sound + w .broken)
   pub high : S * w .sound ≤ e .high * (w .sound + w .broken)
+  pub high-near : e .high * (w .sound + w .broken) ≤ S * w .sound + c * (w .sound + w .broken)
 
-pub data AllEnclosed : List Link → List Weighted → Type 0 where
-  nil : AllEnclosed [] []
-  cons : {e : Link} {w : Weighted} {es : List Link} {ws : List Weighted} → Enclosed e w → AllEnclosed es ws → AllEnclosed (e ∷ es) (w ∷ ws)
+-- of all links, each with its own units
+pub data AllEnclosed : List ℕ → List Link → List Weighted → Type 0 where
+  nil : AllEnclosed [] [] []
+  cons : {c : ℕ} {e : Link} {w : Weighted} {cs : List ℕ} {es : List Link} {ws : List Weighted} → Enclosed c e w → AllEnclosed cs es ws → AllEnclosed (c ∷ cs) (e ∷ es) (w ∷ ws)
+
+-- the units of all links
+unfoldable pub altogether : List ℕ → ℕ
+altogether [] = 0
+altogether (c ∷ cs) = c + altogether cs
 
 -- at first each link's low and high value are equal
 abbrev pub Equal : Network → Type 0

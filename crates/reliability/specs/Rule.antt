@@ -62,10 +62,6 @@ unfoldable pub lowest : (ℕ → List ℕ → Option Step) → List Link → Lis
 lowest rule es [] = none
 lowest rule es (v ∷ vs) = elim (rule v (places (touches v) es)) [ some s ↦ some s | none ↦ lowest rule es vs ]
 
--- step 7 splits on the first link
-abbrev pub chosen : Network → ℕ
-chosen g = 0
-
 -- ---- which step fits
 
 abbrev pub when : Bool → Step → Option Step
@@ -77,16 +73,23 @@ abbrev pub _otherwise_ : Option Step → Step → Step
 _otherwise_ (some s) t = s
 _otherwise_ none t = t
 
--- the first of steps 1 to 7 that fits
-unfoldable pub next : Network → Step
-next g =
+-- the first of steps 1 to 7 that fits, where step 7 splits on the link at place i
+unfoldable pub nextAt : ℕ → Network → Step
+nextAt i g =
     Option·map Loop (firstAt isLoop (g .links))  -- 1: a loop, the first
     otherwise when (leb (length (g .nodes)) 1) OneNode  -- 2: one node left
     otherwise when (not (connected (g .nodes) (map ends (g .links)))) Disconnected  -- 3: not connected
     otherwise Option·map (λ ij. Parallel (ij .0) (ij .1)) (firstPair (g .links))  -- 4: parallel
     otherwise lowest endOf (g .links) (g .nodes)  -- 5: end
     otherwise lowest seriesOf (g .links) (g .nodes)  -- 6: series
-    otherwise Split (chosen g)  -- 7: split
+    otherwise Split i  -- 7: split
+
+-- step 7 splits on the first link
+abbrev pub chosen : Network → ℕ
+chosen g = 0
+
+abbrev pub next : Network → Step
+next g = nextAt (chosen g) g
 
 -- ---- what a step leaves
 
@@ -137,14 +140,14 @@ contracted e g =
     record { nodes = without gone (g .nodes); links = map (renamed keep gone) (g .links) }
 
 -- what is left to work: nothing, one network, one whose figure is multiplied by a factor, or two
-pub data Remainder : Type 0 where
-  settled : ℕ → Remainder
-  rest : Network → Remainder
-  scaled : (Direction → ℕ) → Network → Remainder
-  branches : Link → Network → Network → Remainder
+pub data Remainder (N : Type 0) : Type 0 where
+  settled : ℕ → Remainder N
+  rest : N → Remainder N
+  scaled : (Direction → ℕ) → N → Remainder N
+  branches : Link → N → N → Remainder N
 
 -- what each step leaves
-unfoldable pub leaves : Network → Step → Remainder
+unfoldable pub leaves : Network → Step → Remainder Network
 leaves g OneNode = settled S
 leaves g Disconnected = settled 0
 leaves g (Loop i) = rest (deleted i g)
@@ -155,6 +158,35 @@ leaves g (Series v i j) =
     let f = linkAt g j in
     scaled (λ d. factor d (value d e) (value d f)) (removed v (joined i j (inSeries v e f) g))
 leaves g (Split i) = branches (linkAt g i) (contracted (linkAt g i) (deleted i g)) (deleted i g)
+
+-- what the step that fits leaves, where step 7 splits on the link at place i
+abbrev pub stepAt : ℕ → Network → Remainder Network
+stepAt i g = leaves g (nextAt i g)
+
+-- ---- the work of a network
+
+-- the work of a network as a tree: its figures, a factor and the work that it multiplies,
+-- or a split on a link, at its place, and the work of the sound and of the broken branch
+pub data Tree : Type 0 where
+  ready : (Direction → ℕ) → Tree
+  multiplied : (Direction → ℕ) → Tree → Tree
+  fork : ℕ → Link → Tree → Tree → Tree
+
+-- the tree of what is left, each part of it grown by `grow`; a split is on the link at place i
+unfoldable pub grown : {N : Type 0} → (N → Tree) → ℕ → Remainder N → Tree
+grown grow i (settled k) = ready (λ d. k)
+grown grow i (rest g) = grow g
+grown grow i (scaled k g) = multiplied k (grow g)
+grown grow i (branches e sound broken) = fork i e (grow sound) (grow broken)
+
+-- the tree of a network of m links, by what each step leaves and by the choice of the link to split on:
+-- each step leaves one link less, and a network without links is settled
+unfoldable pub treeOf : {N : Type 0} → (ℕ → N → Remainder N) → (N → ℕ) → ℕ → N → Tree
+treeOf step choose zero g = grown (λ h. ready (λ d. 0)) (choose g) (step (choose g) g)
+treeOf step choose (suc m) g = grown (treeOf step choose m) (choose g) (step (choose g) g)
+
+abbrev pub tree : Network → Tree
+tree g = treeOf stepAt chosen (length (g .links)) g
 
 -- ---- the figure under a limit
 
@@ -178,38 +210,27 @@ blend e s t = bounded (λ d. split d (value d e) (side d s) (side d t)) (suc (s 
 abbrev pub unfinished : Figure
 unfinished = record { low = 0; high = S; steps = 0; finished = false }
 
--- the figure of what is left, worked by `work`: sound first, the broken branch with what sound leaves
-unfoldable pub worked : (Network → ℕ → Figure) → ℕ → Remainder → Figure
-worked work limit (settled k) = bounded (λ d. k) 0 true
-worked work limit (rest g) = work g limit
-worked work limit (scaled k g) = times k (work g limit)
-worked work zero (branches e sound broken) = unfinished
-worked work (suc limit) (branches e sound broken) =
-    let s = work sound limit in
-    blend e s (work broken (limit - s .steps))
-
--- the figure of a network of m links: each step leaves one link less, and a network without links is settled
-unfoldable pub figureOf : ℕ → Network → ℕ → Figure
-figureOf zero g limit = worked (λ h l. unfinished) limit (leaves g (next g))
-figureOf (suc m) g limit = worked (figureOf m) limit (leaves g (next g))
+-- sound first, the broken branch with what sound leaves
+unfoldable pub run : Tree → ℕ → Figure
+run (ready k) limit = bounded k 0 true
+run (multiplied k t) limit = times k (run t limit)
+run (fork i e sound broken) zero = unfinished
+run (fork i e sound broken) (suc limit) =
+    let s = run sound limit in
+    blend e s (run broken (limit - s .steps))
 
 abbrev pub figure : Network → ℕ → Figure
-figure g limit = figureOf (length (g .links)) g limit
+figure g limit = run (tree g) limit
 
 -- ---- the splits needed with no limit
 
-unfoldable pub counted : (Network → ℕ) → Remainder → ℕ
-counted count (settled k) = 0
-counted count (rest g) = count g
-counted count (scaled k g) = count g
-counted count (branches e sound broken) = suc (count sound + count broken)
-
-unfoldable pub neededOf : ℕ → Network → ℕ
-neededOf zero g = counted (λ h. 0) (leaves g (next g))
-neededOf (suc m) g = counted (neededOf m) (leaves g (next g))
+unfoldable pub splits : Tree → ℕ
+splits (ready k) = 0
+splits (multiplied k t) = splits t
+splits (fork i e sound broken) = suc (splits sound + splits broken)
 
 abbrev pub needed : Network → ℕ
-needed g = neededOf (length (g .links)) g
+needed g = splits (tree g)
 
 -- the units by which each figure of a finished pair may be off, for m links and n nodes: the pair is at most 2m + 4n wide
 abbrev pub budget : ℕ → ℕ → ℕ

@@ -7,7 +7,7 @@ use Rattle.reliability.specs.declared.Figure.{Figure}
 use Rattle.reliability.specs.Networks.{Network as Graph, Valid}
 use Rattle.reliability.specs.Rule.{figure}
 use Rattle.reliability.specs.Comparisons.{lessened}
-use Rattle.reliability.proofs.Comparisons.{sound-plain, broken-plain}
+use Rattle.reliability.proofs.Comparisons.{sound-valid, broken-valid}
 use Rattle.network.specs.declared.Network.{Network}
 use Rattle.network.specs.Places.{networkOf, indexOf}
 use Rattle.network.proofs.Picks.{Sized, index-within}
@@ -41,7 +41,7 @@ deleted-requires c κs = search needs
 work-requires : tie.Need-work-requires
 work-requires c κs =
     let a = c .before .before in
-    (subst Valid (sym (c .deleted .ensures)) (broken-plain (graph a) (a .pre .0) (a .pre .1) (index a) (within a) .valid), omega arith)
+    (subst Valid (sym (c .deleted .ensures)) (broken-valid (graph a) (a .pre .0) (index a) (within a)), omega arith)
 
 lessened-requires : tie.Need-lessened-requires
 lessened-requires c κs =
@@ -72,7 +72,7 @@ work-requires-2 c κs =
     let w = c .before .before .before in
     let a = w .before .before .before in
     let link = link-sound (graph a) (index a) (λ loop. c .before .if1 .left (ap (λ (e : Link). e .a) (w .before .before .link .ensures) ∙ loop ∙ sym (ap (λ (e : Link). e .b) (w .before .before .link .ensures)))) in
-    (subst Valid (sym (c .contracted .ensures ∙ link)) (sound-plain (graph a) (a .pre .0) (a .pre .1) (index a) (within a) .valid), omega arith)
+    (subst Valid (sym (c .contracted .ensures ∙ link)) (sound-valid (graph a) (a .pre .0) (index a) (within a)), omega arith)
 
 lessened-requires-2 : tie.Need-lessened-requires-2
 lessened-requires-2 c κs =
