@@ -79,7 +79,7 @@ module _ (plan : List ℕ) (limit : ℕ) (b : List ℕ) where
     valid = valid-of plan well
 
     range : (f .low ≤ f .high) × (f .high ≤ S)
-    range = (rule.low-high-of-equal g valid limit (plan-equal plan), rule.high-range g valid limit)
+    range = (rule.low-high g valid limit, rule.high-range g valid limit)
 
     -- demand 3: its low and its high equal those that the written rule gives under that limit
     pub figure-numbers : Holds after f

@@ -15,7 +15,7 @@ use Rattle.reliability.specs.Networks.{Network, Valid}
 use Rattle.reliability.specs.Rule.{figure, needed}
 use Rattle.reliability.specs.Comparisons.{difference, exactDifference}
 use Rattle.reliability.proofs.Signed.{minus-range}
-use Rattle.reliability.proofs.Theorems.{high-range, low-high-of-equal}
+use Rattle.reliability.proofs.Theorems.{high-range, low-high}
 use Rattle.reliability.proofs.Comparisons as rule
 use Rattle.plan.specs.declared.Verdict.{Verdict}
 use Rattle.plan.specs.declared.Verdict.the-variants.{Accepted}
@@ -94,8 +94,8 @@ module _ (first second : List ℕ) (limit : ℕ) (b : List ℕ) where
 
     small : (mag (d .low) < 2 ^ 31) × (mag (d .high) < 2 ^ 31)
     small =
-        let x = low-high-of-equal g gv limit (plan-equal first) in
-        let y = low-high-of-equal h hv limit (plan-equal second) in
+        let x = low-high g gv limit in
+        let y = low-high h hv limit in
         let p = high-range g gv limit in
         let q = high-range h hv limit in (
           minus-range (figure g limit .low) (figure h limit .high) (2 ^ 31) (omega arith) (omega arith),
@@ -119,7 +119,7 @@ module _ (first second : List ℕ) (limit : ℕ) (b : List ℕ) where
 
     -- from −S to S, low no higher than high
     pub difference-range : (negℤ (pos S) ≤ℤ low) × (low ≤ℤ high) × (high ≤ℤ pos S)
-    difference-range = rw (difference-numbers .low, difference-numbers .high) (rule.difference-range-of-equal g h gv hv limit (plan-equal first) (plan-equal second))
+    difference-range = rw (difference-numbers .low, difference-numbers .high) (rule.difference-range g h gv hv limit)
 
     -- demand 3, likewise: each of the two evaluations gets the whole limit; steps add
     pub difference-steps : stepsIn after ≡ min (needed g) limit + min (needed h) limit

@@ -5,17 +5,18 @@ use mathlib.Core.List.{List}
 use mathlib.Core.Logic.{_⊎_, _↔_, Iff·trans}
 use mathlib.Core.Bool.{cond}
 use native.Mathlib.Omega.{arith}
+use lib.Dec.{eqb}
 use lib.ListN.{length}
 use Rattle.rounding.specs.Rounding.{S}
 use Rattle.reliability.specs.declared.Figure.{Figure}
 use Rattle.reliability.specs.Networks.{Network, Valid}
 use Rattle.reliability.specs.Rule.{needed}
-use Rattle.reliability.specs.Comparisons.{soundAt, brokenAt, importance, exactImportance}
+use Rattle.reliability.specs.Comparisons.{soundAt, soundCount, brokenAt, importance, exactImportance}
 use Rattle.reliability.proofs.Comparisons as rule
 use Rattle.plan.specs.declared.Verdict.{Verdict}
 use Rattle.plan.specs.declared.Verdict.the-variants.{Accepted}
-use Rattle.plan.specs.Plans.{WellFormed, sizeM, returned, planOf}
-use Rattle.plan.proofs.Accepted.{plan-equal, plan-links}
+use Rattle.plan.specs.Plans.{WellFormed, sizeN, sizeM, firstEnd, secondEnd, returned, planOf}
+use Rattle.plan.proofs.Accepted.{plan-equal, plan-links, plan-nodes, plan-ends}
 use Rattle.desk.specs.Outcomes.{withFigure, placed, Outcome, figureVerdict, importanceVerdict, importanceOutcome}
 use Rattle.desk.specs.Answers.{lowIn, highIn, stepsIn, finishedIn, Holds, LiesWithin, Marked, Full, Refusal}
 use Rattle.desk.proofs.Answers.{full-or-refused, returned-alone, zero-alone, also-means, placed-means, figure-means, valid-of, read-back, marked, both-finished, mark-true}
@@ -83,7 +84,7 @@ module _ (plan : List ℕ) (place limit : ℕ) (b : List ℕ) where
     present = omega (arith, importance-accepted .0 zero .3, plan-links plan)
 
     range : (f .low ≤ f .high) × (f .high ≤ S)
-    range = rule.importance-range-of-equal g valid place present limit (plan-equal plan)
+    range = rule.importance-range g valid place present limit
 
     -- demand 3, likewise: its low and its high equal those that the written rule gives under that limit
     pub importance-numbers : Holds after f
@@ -111,12 +112,18 @@ module _ (plan : List ℕ) (place limit : ℕ) (b : List ℕ) where
         let both = rule.importance-finished g valid place present limit ∙ both-finished (needed sound) (needed broken) limit in
         marked (max (needed sound) (needed broken)) limit (importance-numbers .finished ∙ ap (λ t. cond t 1 0) both)
 
-    -- demand 3, likewise: a finished pair is no wider than its two evaluations' bounds together
+    -- the nodes with the link sound: n - 1, and n where its ends are the same
+    abbrev kept : ℕ
+    kept = cond (eqb (firstEnd plan place) (secondEnd plan place)) (sizeN plan) (sizeN plan - 1)
+
+    -- demand 3, likewise: a finished pair is no wider than its two evaluations' bounds together, each of m - 1 links
     pub importance-width : finishedIn after ≡ 1
-        → highIn after ≤ lowIn after + ((2 * fewer + 4 * length (sound .nodes)) + (2 * fewer + 4 * length (broken .nodes)))
+        → highIn after ≤ lowIn after + ((2 * fewer + 4 * kept) + (2 * fewer + 4 * sizeN plan))
     importance-width done =
         let w = rule.importance-width-of-equal g valid place present limit (plan-equal plan) (mark-true (f .finished) (importance-numbers .finished) done) in
-        omega (arith, importance-numbers, plan-links plan)
+        let ends = plan-ends plan place (importance-accepted .0 zero .3) in
+        let count : soundCount g place ≡ kept = rw (ends .0, ends .1, plan-nodes plan) in
+        omega (arith, importance-numbers, plan-links plan, plan-nodes plan)
 
 -- demand 3, likewise: with a larger limit and all else alike the second pair lies within the first
 pub importance-nesting : (plan : List ℕ) (place limit larger : ℕ) (b c : List ℕ) → importanceOutcome plan place limit b .returned ≡ 0 → importanceOutcome plan place larger c .returned ≡ 0

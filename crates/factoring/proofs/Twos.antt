@@ -10,7 +10,7 @@ use Rattle.reliability.specs.Networks.{Network as Graph, Valid, linkAt}
 use Rattle.reliability.specs.Exact.{Equal}
 use Rattle.reliability.specs.Rule.{isLoop, deleted, contracted, figure}
 use Rattle.reliability.specs.Comparisons.{soundAt, brokenAt, lessened, importance}
-use Rattle.reliability.proofs.Comparisons.{sound-valid, broken-valid, broken-sound-of-equal}
+use Rattle.reliability.proofs.Comparisons.{sound-valid, broken-valid, broken-sound}
 use Rattle.reliability.proofs.Unrolled.{figure-steps}
 
 module _ (g : Graph) (k : ℕ) where
@@ -28,7 +28,7 @@ module _ (g : Graph) (k : ℕ) where
     subtracts =
         let x = figure-steps (soundAt k g) limit (sound-valid g valid k place) in
         let y = figure-steps (brokenAt k g) limit (broken-valid g valid k place) in (
-          subst₂ (λ (f h : Figure). h .low ≤ f .high) (sym is) (sym ib) (broken-sound-of-equal g valid k place limit equal),
+          subst₂ (λ (f h : Figure). h .low ≤ f .high) (sym is) (sym ib) (broken-sound g valid k place limit),
           subst₂ (λ (f h : Figure). f .steps + h .steps < 2 ^ 32) (sym is) (sym ib) (omega arith),
         )
 

@@ -1,21 +1,22 @@
 -- The network of an accepted plan is valid, with its low and high values equal.
 use Prim.Native.Nat.{ℕ, zero, suc, _+_, _≤_, _<_}
-use mathlib.Core.Path.{_≡_, refl, sym, ap, ap₂, subst}
+use mathlib.Core.Path.{_≡_, refl, sym, ap, ap₂, _∙_, subst}
 use mathlib.Core.List.{List, _∷_, List·Memᴰ, List·Memᴰ·head, List·Memᴰ·tail, List·Memᴰ·not-nil, List·Memᴰ·cases-cons}
 use mathlib.Core.Logic.{⊎-elim}
-use native.Mathlib.Nat.{le-of-lt}
+use native.Mathlib.Nat.{le-of-lt, zero-add}
 use native.Mathlib.Omega.{arith}
 use native.Mathlib.Decide.{ℕ-discrete}
 use lib.ListN.{length}
-use Rattle.reliability.specs.Networks.{Network, Ascending, Valid}
+use Rattle.reliability.specs.declared.Link.{Link}
+use Rattle.reliability.specs.Networks.{Network, Ascending, Valid, linked, linkAt}
 use Rattle.reliability.specs.Exact.{Equal}
 use Rattle.reliability.specs.Comparisons.{importance}
 use Rattle.network.specs.declared.Network.{Network as Slots}
 use Rattle.plan.specs.declared.Verdict.the-variants.{Accepted}
-use Rattle.plan.specs.Plans.{sizeN, sizeM, verdict, planOf}
+use Rattle.plan.specs.Plans.{sizeN, sizeM, firstEnd, secondEnd, verdict, linkIn, planOf}
 use Rattle.network.specs.Places.{from, networkOf, indexOf, Used, Built}
 use Rattle.network.proofs.Picks.{built-used, built-index}
-use Rattle.plan.proofs.Links.{length-links, one-value, links-proper}
+use Rattle.plan.proofs.Links.{length-links, link-in, one-value, links-proper}
 
 pub length-from : (i k : ℕ) → length (from i k) ≡ k
 unfolding from
@@ -53,6 +54,13 @@ module _ (b : List ℕ) where
 
   pub plan-nodes : length (planOf b .nodes) ≡ sizeN b
   plan-nodes = length-from 0 (sizeN b)
+
+  -- the ends of a link are those of the file
+  pub plan-ends : (i : ℕ) → i < sizeM b → (linkAt (planOf b) i .a ≡ firstEnd b i) × (linkAt (planOf b) i .b ≡ secondEnd b i)
+  unfolding linkIn
+  plan-ends i h =
+      let e = rw (zero-add i) at (link-in b (linked 0 0 (λ d. 0)) 0 (sizeM b) i h) in
+      (ap (λ (l : Link). l .a) e, ap (λ (l : Link). l .b) e)
 
   -- a network by value that stands for the plan
   module _ (n : Slots) (is : networkOf n ≡ planOf b) where

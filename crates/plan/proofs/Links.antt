@@ -8,7 +8,7 @@ use native.Mathlib.Numerals.{add-one}
 use native.Mathlib.Omega.{arith}
 use native.Mathlib.Nat.{le-refl, add-zero, zero-add, suc-add, add-suc}
 use lib.Dec.{leb}
-use lib.ListN.{length}
+use lib.ListN.{length, getD}
 use borrow.Author.Tests.{leb-true}
 use Rattle.rounding.specs.Rounding.{S}
 use Rattle.ratings.proofs.Laws.{range}
@@ -44,6 +44,13 @@ module _ (b : List ℕ) where
   length-links i zero = refl
   length-links i (suc k) = ap suc (length-links (suc i) k)
 
+  -- the link at place j
+  pub link-in : (other : Link) (i k j : ℕ) → j < k → getD (linksIn b i k) j other ≡ linkIn b (i + j)
+  unfolding linksIn
+  link-in other i zero j h = absurd (omega arith)
+  link-in other i (suc k) zero h = rw add-zero
+  link-in other i (suc k) (suc j) h = link-in other (suc i) k j (omega arith) ∙ rw (suc-add i j, add-suc i j)
+
   -- what holds at each place holds of each link
   pub each-link : (P : Link → Type 0) (i k : ℕ) → ((j : ℕ) → i ≤ j → j < i + k → P (linkIn b j)) → (e : Link) → List·Memᴰ e (linksIn b i k) → P e
   unfolding linksIn
@@ -61,4 +68,4 @@ module _ (b : List ℕ) where
   unfolding linkIn
   links-proper vs all accepted = each-link (Proper vs) 0 (sizeM b) (λ j l h.
       let w = accepted-means b .0 accepted .each j (omega arith) in
-      record { a-node = all (firstEnd b j) (w .first); b-node = all (secondEnd b j) (w .second); range = λ d. rw value-linked (units-range (fileValue b j)) })
+      record { a-node = all (firstEnd b j) (w .first); b-node = all (secondEnd b j) (w .second); range = λ d. rw value-linked (units-range (fileValue b j)); order = le-refl (unitsOf (rated (fileValue b j))) })

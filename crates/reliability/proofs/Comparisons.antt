@@ -2,8 +2,8 @@
 use Prim.Native.Nat.{ℕ, _+_, _-_, _*_, _^_, _≤_, _<_, min, max}
 use mathlib.Core.Path.{_≡_, refl, sym, ap, ap₂, _∙_, subst, subst₂}
 use mathlib.Core.List.{List, [], map}
-use mathlib.Core.Bool.{Bool, true, false, _&&_, and-eq-true-iff}
-use native.Mathlib.Nat.{mul-assoc, mul-comm, mul-sub, add-le-add, mul-le-mul-left, mul-le-mul-right, le-of-mul-le-mul-right, le-trans}
+use mathlib.Core.Bool.{Bool, true, false, cond, _&&_, and-eq-true-iff}
+use native.Mathlib.Nat.{mul-assoc, mul-comm, mul-sub, add-le-add, mul-le-mul-left, mul-le-mul-right, le-of-mul-le-mul-right, le-refl, le-trans}
 use native.Mathlib.Omega.{arith}
 use lib.Dec.{leb}
 use lib.ListN.{length, length-map, List·getD-map}
@@ -20,14 +20,15 @@ use Rattle.reliability.specs.declared.Figure.{Figure}
 use Rattle.reliability.specs.Networks.{Network, Valid, ends, value, linked, linkAt}
 use Rattle.reliability.specs.Exact.{Weighted, weighted, sum, total, exact, AllEnclosed, altogether, Equal}
 use Rattle.reliability.specs.Rule.{isLoop, deleteAt, without, deleted, contracted, renamed, figure, needed, budget}
-use Rattle.reliability.specs.Comparisons.{soundAt, brokenAt, importance, soundSum, brokenSum, exactImportance, difference, apart, exactDifference}
+use Rattle.reliability.specs.Comparisons.{soundAt, soundCount, brokenAt, importance, soundSum, brokenSum, exactImportance, difference, apart, exactDifference}
 use Rattle.reliability.proofs.Lists.{map-delete, mem-delete, length-delete}
 use Rattle.reliability.proofs.States.{moved, front, sum-more, loop-idle, contraction, onto-kept}
-use Rattle.reliability.proofs.Validity.{proper-at, smaller-node, larger-smaller, deleted-valid, contracted-valid}
+use Rattle.reliability.proofs.Validity.{proper-at, smaller-node, larger-node, larger-smaller, deleted-valid, contracted-valid}
 use Rattle.reliability.proofs.Reductions.{weighted-renamed}
+use Rattle.reliability.proofs.Enclosure.{without-less}
 use Rattle.reliability.proofs.Signed.{minus-order, minus-mul, minus-add}
-use Rattle.reliability.proofs.Weights.{Near, total-pos, all-deleted, all-renamed, total-moved, no-units}
-use Rattle.reliability.proofs.Theorems.{steps-taken, finished-when, nesting, high-range, near-exact, low-high, width, equal-enclosed, equal-total}
+use Rattle.reliability.proofs.Weights.{Near, total-pos, all-deleted, all-renamed, total-moved, gaps, no-units}
+use Rattle.reliability.proofs.Theorems.{steps-taken, finished-when, nesting, high-range, low-high, near-exact, width, low-weights, low-total}
 
 -- ---- a link sound or broken
 
@@ -65,6 +66,12 @@ module _ (g : Network) (valid : Valid g) (i : ℕ) (place : i < length (g .links
   pub sound-links : length (soundAt i g .links) ≡ length (g .links) - 1
   unfolding soundAt
   sound-links = by-loop (λ t. length (sound-if t .links) ≡ length (g .links) - 1) (λ l. broken-links) (λ n. length-map (deleteAt i (g .links)) (renamed keep gone) ∙ broken-links)
+
+  -- n nodes, one less where link i is no loop
+  pub sound-nodes : length (soundAt i g .nodes) ≤ soundCount g i
+  unfolding soundAt
+  sound-nodes = by-loop (λ t. length (sound-if t .nodes) ≤ cond t (length (g .nodes)) (length (g .nodes) - 1)) (λ l. le-refl (length (g .nodes)))
+      (λ n. let fewer = without-less gone (g .nodes) (larger-node (g .nodes) e (proper-at g valid i place)) in omega arith)
 
   -- the weights of the other links, where link i is sound
   abbrev weights-if : Bool → List Weighted → List Weighted
@@ -159,9 +166,6 @@ module _ (g : Network) (valid : Valid g) (i : ℕ) (place : i < length (g .links
       broken-near : (d : Direction) → Near d (budget (length (b .links)) (length (b .nodes)) + units) others (brokenSum g ws i) (figure b limit)
       broken-near = near-exact b broken-valid limit (all-deleted i h)
 
-      some : 0 < others
-      some = total-pos (all-deleted i h)
-
       -- demand 2: sound minus broken
       pub importance-enclosure : (importance g i limit .low * others ≤ S * (soundSum g ws i - brokenSum g ws i)) × (S * (soundSum g ws i - brokenSum g ws i) ≤ importance g i limit .high * others)
       importance-enclosure =
@@ -171,15 +175,8 @@ module _ (g : Network) (valid : Valid g) (i : ℕ) (place : i < length (g .links
             omega (arith, sub-mul (f .high) (k .low) others, mul-sub S (soundSum g ws i) (brokenSum g ws i), sound-near Up .bounds, broken-near Down .bounds),
           )
 
-      -- so the high is no truncated difference
-      pub broken-sound : figure b limit .low ≤ figure s limit .high
-      broken-sound = le-of-mul-le-mul-right (le-trans (broken-near Down .bounds) (le-trans (mul-le-mul-left S (sound-more ws)) (sound-near Up .bounds))) some
-
-      pub importance-range : (importance g i limit .low ≤ importance g i limit .high) × (importance g i limit .high ≤ S)
-      importance-range =
-          let x = low-high s sound-valid limit (sound-encloses h) in
-          let y = low-high b broken-valid limit (all-deleted i h) in
-          (omega arith, omega (arith, high-range s sound-valid limit))
+      broken-below-sound : figure b limit .low ≤ figure s limit .high
+      broken-below-sound = le-of-mul-le-mul-right (le-trans (broken-near Down .bounds) (le-trans (mul-le-mul-left S (sound-more ws)) (sound-near Up .bounds))) (total-pos (all-deleted i h))
 
       -- a finished pair is no wider than its two evaluations' bounds together
       pub importance-width : importance g i limit .finished ≡ true
@@ -190,6 +187,16 @@ module _ (g : Network) (valid : Valid g) (i : ℕ) (place : i < length (g .links
           let y = width b broken-valid limit (all-deleted i h) (both .1) in
           omega arith
 
+    -- so the high is no truncated difference
+    pub broken-sound : figure b limit .low ≤ figure s limit .high
+    broken-sound = broken-below-sound (low-weights g valid)
+
+    pub importance-range : (importance g i limit .low ≤ importance g i limit .high) × (importance g i limit .high ≤ S)
+    importance-range =
+        let x = low-high s sound-valid limit in
+        let y = low-high b broken-valid limit in
+        (omega (arith, broken-sound), omega (arith, high-range s sound-valid limit))
+
     -- where the links' low and high values are equal
     module _ (equal : Equal g) where
       abbrev fewer : ℕ
@@ -198,21 +205,16 @@ module _ (g : Network) (valid : Valid g) (i : ℕ) (place : i < length (g .links
       -- demand 2: low × S^(m−1) ≤ S × (sound − broken) ≤ high × S^(m−1)
       pub importance-enclosure-of-equal : (importance g i limit .low * S ^ fewer ≤ S * exactImportance g i) × (S * exactImportance g i ≤ importance g i limit .high * S ^ fewer)
       importance-enclosure-of-equal =
-          let all : total (deleteAt i (map (weighted Down) (g .links))) ≡ S ^ fewer = ap total (sym (map-delete (weighted Down) i (g .links))) ∙ equal-total b broken-valid ∙ ap (λ n. S ^ n) broken-links in
-          rw (← all, ← sound-exact Down, ← broken-exact Down) (importance-enclosure (equal-enclosed g valid equal))
+          let all : total (deleteAt i (map (weighted Down) (g .links))) ≡ S ^ fewer = ap total (sym (map-delete (weighted Down) i (g .links))) ∙ low-total b broken-valid ∙ ap (λ n. S ^ n) broken-links in
+          rw (← all, ← sound-exact Down, ← broken-exact Down) (importance-enclosure (low-weights g valid))
 
-      pub broken-sound-of-equal : figure b limit .low ≤ figure s limit .high
-      broken-sound-of-equal = broken-sound (equal-enclosed g valid equal)
-
-      pub importance-range-of-equal : (importance g i limit .low ≤ importance g i limit .high) × (importance g i limit .high ≤ S)
-      importance-range-of-equal = importance-range (equal-enclosed g valid equal)
-
+      -- m − 1 links; n nodes with it broken, n − 1 with it sound where it is no loop
       pub importance-width-of-equal : importance g i limit .finished ≡ true
-          → importance g i limit .high ≤ importance g i limit .low + ((2 * fewer + 4 * length (s .nodes)) + (2 * fewer + 4 * length (b .nodes)))
+          → importance g i limit .high ≤ importance g i limit .low + ((2 * fewer + 4 * soundCount g i) + (2 * fewer + 4 * length (g .nodes)))
       importance-width-of-equal done =
-          let none : altogether (deleteAt i (map (λ (e : Link). e .high - e .low) (g .links))) ≡ 0 =
+          let none : altogether (deleteAt i (gaps (g .links))) ≡ 0 =
           ap altogether (sym (map-delete (λ (e : Link). e .high - e .low) i (g .links))) ∙ no-units (deleteAt i (g .links)) (λ f m. equal f (mem-delete i (g .links) m)) in
-          omega (arith, importance-width (equal-enclosed g valid equal) done, none, sound-links, broken-links)
+          omega (arith, importance-width (low-weights g valid) done, none, sound-links, broken-links, sound-nodes)
 
 -- ---- difference
 
@@ -261,6 +263,15 @@ module _ (g h : Network) (gv : Valid g) (hv : Valid h) (limit : ℕ) where
   pub difference-finished : difference g h limit .finished ≡ leb (needed g) limit && leb (needed h) limit
   difference-finished = ap₂ _&&_ (finished-when g gv limit) (finished-when h hv limit)
 
+  -- from −S to S, low no higher than high
+  pub difference-range : (negℤ (pos S) ≤ℤ difference g h limit .low) × (difference g h limit .low ≤ℤ difference g h limit .high) × (difference g h limit .high ≤ℤ pos S)
+  difference-range =
+      let x = low-high g gv limit in
+      let y = low-high h hv limit in
+      let most = high-range g gv limit in
+      let top = high-range h hv limit in
+      (minus-order 0 S (f .low) (k .high) (omega arith), minus-order (f .low) (k .high) (f .high) (k .low) (omega arith), minus-order (f .high) (k .low) S 0 (omega arith))
+
   -- for any exact weights that the links' values enclose, each off by at most its own units
   module _ {cs bs : List ℕ} {ws us : List Weighted} (gw : AllEnclosed cs (g .links) ws) (hw : AllEnclosed bs (h .links) us) where
     abbrev N : ℕ
@@ -287,15 +298,6 @@ module _ (g h : Network) (gv : Valid g) (hv : Valid h) (limit : ℕ) where
           times-above (f .high) (k .low) (N * U) (M * T) D (under-both (f .high) N T U D refl (x Up .bounds)) (over-both (k .low) M U T D turned (y Down .bounds)),
         )
 
-    -- from −S to S, low no higher than high
-    pub difference-range : (negℤ (pos S) ≤ℤ difference g h limit .low) × (difference g h limit .low ≤ℤ difference g h limit .high) × (difference g h limit .high ≤ℤ pos S)
-    difference-range =
-        let x = low-high g gv limit gw in
-        let y = low-high h hv limit hw in
-        let most = high-range g gv limit in
-        let top = high-range h hv limit in
-        (minus-order 0 S (f .low) (k .high) (omega arith), minus-order (f .low) (k .high) (f .high) (k .low) (omega arith), minus-order (f .high) (k .low) S 0 (omega arith))
-
     pub difference-width : difference g h limit .finished ≡ true
         → difference g h limit .high ≤ℤ (difference g h limit .low +ℤ pos ((2 * mg + 4 * length (g .nodes) + 2 * altogether cs) + (2 * mh + 4 * length (h .nodes) + 2 * altogether bs)))
     difference-width done =
@@ -313,13 +315,10 @@ module _ (g h : Network) (gv : Valid g) (hv : Valid h) (limit : ℕ) where
         × ((pos S *ℤ exactDifference g h) ≤ℤ (difference g h limit .high *ℤ pos (S ^ (mg + mh))))
     unfolding exact
     difference-enclosure-of-equal =
-        rw (pow-add S mg mh, ← equal-total g gv, ← equal-total h hv) (difference-enclosure (equal-enclosed g gv ge) (equal-enclosed h hv he))
-
-    pub difference-range-of-equal : (negℤ (pos S) ≤ℤ difference g h limit .low) × (difference g h limit .low ≤ℤ difference g h limit .high) × (difference g h limit .high ≤ℤ pos S)
-    difference-range-of-equal = difference-range (equal-enclosed g gv ge) (equal-enclosed h hv he)
+        rw (pow-add S mg mh, ← low-total g gv, ← low-total h hv) (difference-enclosure (low-weights g gv) (low-weights h hv))
 
     pub difference-width-of-equal : difference g h limit .finished ≡ true
         → difference g h limit .high ≤ℤ (difference g h limit .low +ℤ pos ((2 * mg + 4 * length (g .nodes)) + (2 * mh + 4 * length (h .nodes))))
     difference-width-of-equal done =
-        let w = rw (no-units (g .links) ge, no-units (h .links) he) at (difference-width (equal-enclosed g gv ge) (equal-enclosed h hv he) done) in
+        let w = rw (no-units (g .links) ge, no-units (h .links) he) at (difference-width (low-weights g gv) (low-weights h hv) done) in
         subst (λ (n : ℕ). difference g h limit .high ≤ℤ (difference g h limit .low +ℤ pos n)) (omega arith) w

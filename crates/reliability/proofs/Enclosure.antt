@@ -25,6 +25,7 @@ use Rattle.reliability.proofs.Within.{Within, equal, rounded, weaken, t
 use Rattle.reliability.proofs.Lawful.{Leaves, View, exactly, Place, Reduces, Fewer, Sized, Lawful, Choice}
 use Rattle.reliability.proofs.Runs.{side-bounded, Ranged}
 use Rattle.reliability.proofs.Steps.{view, Fits, fits-at, left-by, settled-by}
+use Rattle.reliability.proofs.Validity.{valued}
 use Rattle.reliability.proofs.Reductions.{reduces, total-is}
 
 -- one power more
@@ -139,7 +140,7 @@ module _ {N : Type 0} (Valid : N → Type 0) (μ : View N) (step : ℕ → N →
   below : (d : Direction) (m : ℕ) (g : N) → Sized Valid μ m g → exactly μ d g ≤ S ^ m
   below d m g h =
       le-trans (sum-total (μ .hang g) (map (weighted d) (μ .links g)) [])
-      (le-of-eq (total-is d (μ .links g) (λ e k. lawful .range g (h .valid) e k d) ∙ ap (λ n. S ^ n) (h .size)))
+      (le-of-eq (total-is d (μ .links g) (lawful .values g (h .valid) .range d) ∙ ap (λ n. S ^ n) (h .size)))
 
   module _ (choose : N → ℕ) (choice : Choice μ choose) where
     grown-encloses : (d : Direction) (m : ℕ) (g : N) → Sized Valid μ (suc m) g → (grow : N → Tree) → ((h : N) → Sized Valid μ m h → (l : ℕ) → Figured μ d m (run (grow h) l) h)
@@ -209,7 +210,7 @@ fewer g (Split i) h = (without-length (max (linkAt g i .a) (linkAt g i .b)) (g .
 
 pub lawful : Lawful Valid view stepAt
 lawful = record {
-  range = λ g valid e m. valid .proper e m .range;
+  values = λ g. valued;
   left = λ m g h i at. left-by m g h (nextAt i g) (fits-at g (h .valid) i at);
   none-left = λ g h i. settled-by g (h .size) (nextAt i g) (fits-at g (h .valid) i (λ here. absurd (omega (arith, h .size))));
   fewer = λ g valid i at. fewer g (nextAt i g) (fits-at g valid i at);

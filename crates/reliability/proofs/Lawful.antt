@@ -23,6 +23,11 @@ Leaves P (branches e sound broken) = P sound × P broken × ((d : Direction) →
 abbrev pub over : Direction → List ℕ → List Link → ℕ
 over d vs es = sum vs (map (weighted d) es) []
 
+-- each link's low and high value are in order and at most S
+pub record Valued (es : List Link) : Type 0 where
+  pub range : (d : Direction) (e : Link) → List·Memᴰ e es → value d e ≤ S
+  pub order : (e : Link) → List·Memᴰ e es → e .low ≤ e .high
+
 -- what a network of any kind shows: its links, its nodes, and those of them that have to hang together
 pub record View (N : Type 0) : Type 0 where
   pub links : N → List Link
@@ -59,7 +64,7 @@ module _ {N : Type 0} (Valid : N → Type 0) (μ : View N) where
 
   -- step i g is what is left of g where a split is on the link at place i
   pub record Lawful (step : ℕ → N → Remainder N) : Type 0 where
-    pub range : (g : N) → Valid g → (e : Link) → List·Memᴰ e (μ .links g) → (d : Direction) → value d e ≤ S
+    pub values : (g : N) → Valid g → Valued (μ .links g)
     -- each step takes a link away
     pub left : (m : ℕ) (g : N) → Sized (suc m) g → (i : ℕ) → Place μ g i → Leaves (Sized m) (step i g)
     -- a network without links is settled

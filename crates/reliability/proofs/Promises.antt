@@ -13,7 +13,7 @@ use Rattle.reliability.specs.Rule.{Remainder, Tree, treeOf, side, run, b
 use Rattle.reliability.proofs.Lawful.{View, Sized, Lawful, Choice}
 use Rattle.reliability.proofs.Runs.{Ranged, range, nested}
 use Rattle.reliability.proofs.Enclosure.{encloses, ranged}
-use Rattle.reliability.proofs.Weights.{Near, near-weights, low-below-high, no-wider, total-pos}
+use Rattle.reliability.proofs.Weights.{Near, near-weights, low-below-high, no-wider, total-pos, gaps, low-enclosed}
 
 module _ {N : Type 0} (Valid : N → Type 0) (μ : View N) (step : ℕ → N → Remainder N) (lawful : Lawful Valid μ step) (choose : N → ℕ) (choice : Choice μ choose)
     (g : N) (valid : Valid g) (l : ℕ) where
@@ -42,16 +42,18 @@ module _ {N : Type 0} (Valid : N → Type 0) (μ : View N) (step : ℕ → N →
   -- for any exact weights that the links' values enclose, each off by at most its own units
   module _ {cs : List ℕ} {ws : List Weighted} (h : AllEnclosed cs (μ .links g) ws) where
     pub near-exact : (d : Direction) → Near d (budget m n + altogether cs) (total ws) (sum (μ .hang g) ws []) (run work l)
-    near-exact d = near-weights d (budget m n) (run work l) (μ .hang g) (λ e k. lawful .range g valid e k d) h (encloses Valid μ step lawful choose choice d m g sized l)
+    near-exact d = near-weights d (budget m n) (run work l) (μ .hang g) (lawful .values g valid) h (encloses Valid μ step lawful choose choice d m g sized l)
 
     pub enclosure : (run work l .low * total ws ≤ S * sum (μ .hang g) ws []) × (S * sum (μ .hang g) ws [] ≤ run work l .high * total ws)
     enclosure = (near-exact Down .bounds, near-exact Up .bounds)
-
-    pub low-high : run work l .low ≤ run work l .high
-    low-high = low-below-high (budget m n + altogether cs) (total ws) (sum (μ .hang g) ws []) (run work l) (total-pos h) near-exact
 
     -- a finished pair is at most 2m + 4n wide, and twice the links' own units
     pub width : run work l .finished ≡ true → run work l .high ≤ run work l .low + (2 * m + 4 * n + 2 * altogether cs)
     width done =
         let w = no-wider (budget m n + altogether cs) (total ws) (sum (μ .hang g) ws []) (run work l) (total-pos h) near-exact done in
         omega arith
+
+  pub low-high : run work l .low ≤ run work l .high
+  low-high =
+      let h = low-enclosed (μ .links g) (lawful .values g valid) in
+      low-below-high (budget m n + altogether (gaps (μ .links g))) _ _ (run work l) (total-pos h) (near-exact h)

@@ -13,7 +13,8 @@ use lib.Seq.{lt-length-set}
 use borrow.Author.Tests.{eqb-true, eqb-false, leb-true, leb-false}
 use Rattle.rounding.specs.Rounding.{S}
 use Rattle.rounding.specs.declared.Direction.{Direction}
-use Rattle.rounding.proofs.Operations.{series-range, factor-range}
+use Rattle.rounding.specs.declared.Direction.the-variants.{Down, Up}
+use Rattle.rounding.proofs.Operations.{series-range, series-order, factor-range}
 use Rattle.reliability.specs.declared.Link.{Link}
 use Rattle.reliability.specs.declared.Step.{Step}
 use Rattle.reliability.specs.declared.Step.the-variants.{OneNode, Disconnected, Loop, Parallel, End, Series, Split}
@@ -23,7 +24,7 @@ use Rattle.reliability.proofs.Lists.{or-true, length-delete, getD-mem}
 use Rattle.reliability.proofs.Lawful.{Leaves, View, Place, Sized}
 use Rattle.reliability.proofs.Searches.{Answers, Holds, Fails, first-at, Placed, Pair, first-pair, lowest-of}
 use Rattle.reliability.proofs.States.{Joins, Off}
-use Rattle.reliability.proofs.Validity.{value-linked, proper-at, across-node, deleted-valid, joined-valid, removed-valid, contracted-valid, parallel-proper, mem-joined}
+use Rattle.reliability.proofs.Validity.{proper-at, across-proper, deleted-valid, joined-valid, removed-valid, contracted-valid, parallel-proper, mem-joined}
 
 -- e joins v to another node
 pub record Leg (v : ℕ) (e : Link) : Type 0 where
@@ -146,13 +147,13 @@ module _ (m : ℕ) (g : Network) (h : SizedNetwork (suc m) g) where
   end-sized v i k = removed-sized v (deleted i g) (deleted-sized (k .place)) (k .others)
 
   -- two links at v become one, of whatever value
-  pub across-sized : (v i j : ℕ) → AtSeries g v i j → (x : Direction → ℕ) → ((d : Direction) → x d ≤ S)
+  pub across-sized : (v i j : ℕ) → AtSeries g v i j → (x : Direction → ℕ) → ((d : Direction) → x d ≤ S) → x Down ≤ x Up
       → SizedNetwork m (removed v (joined i j (linked (across v (linkAt g i)) (across v (linkAt g j)) x) g))
-  across-sized v i j k x range =
+  across-sized v i j k x range order =
       let e = linkAt g i in
       let f = linkAt g j in
       let new = linked (across v e) (across v f) x in
-      let fits : Proper (g .nodes) new = record { a-node = across-node (g .nodes) v e (proper-in (omega arith)); b-node = across-node (g .nodes) v f (proper-in (k .place)); range = λ d. rw value-linked (range d) } in
+      let fits : Proper (g .nodes) new = across-proper (g .nodes) e f (proper-in (omega arith)) (proper-in (k .place)) v x range order in
       let off : Clear v (joined i j new g .links) =
       λ y n. ⊎-elim (λ (r : y ≡ new). subst (λ (y : Link). Off v (ends y)) (sym r) (k .first .differ, k .second .differ)) (k .others y) (mem-joined (g .links) i j (k .order) n) in
       removed-sized v (joined i j new g) (joined-sized new (k .order) (k .place) fits) off
@@ -241,7 +242,7 @@ module _ (m : ℕ) (g : Network) (h : SizedNetwork (suc m) g) where
   left-by (Series v i j) k =
       let p : Proper (g .nodes) (linkAt g i) = proper (omega arith) in
       let q = proper (k .place) in
-      (across-sized m g h v i j k _ (λ d. series-range d _ _ (p .range d) (q .range d)), λ d. factor-range d _ _ (p .range d) (q .range d))
+      (across-sized m g h v i j k _ (λ d. series-range d _ _ (p .range d) (q .range d)) (series-order (p .order) (p .range Up) (q .order) (q .range Up)), λ d. factor-range d _ _ (p .range d) (q .range d))
   left-by (Split i) k = (contracted-sized m g h i k, deleted-sized m g h (k .place), proper (k .place) .range)
 
 pub settled-by : (g : Network) → length (g .links) ≡ 0 → (s : Step) → Fits g s → (k : ℕ) × (k ≤ S) × (leaves g s ≡ settled k)

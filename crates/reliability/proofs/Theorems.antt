@@ -3,7 +3,6 @@ use Prim.Native.Nat.{ℕ, _+_, _-_, _*_, _^_, _≤_, min}
 use mathlib.Core.Path.{_≡_}
 use mathlib.Core.List.{List, [], map}
 use mathlib.Core.Bool.{true}
-use native.Mathlib.Nat.{le-of-eq}
 use native.Mathlib.Omega.{arith}
 use lib.Dec.{leb}
 use lib.ListN.{length}
@@ -18,15 +17,16 @@ use Rattle.reliability.proofs.Runs.{steps, finished}
 use Rattle.reliability.proofs.Steps.{view, first-link}
 use Rattle.reliability.proofs.Reductions.{total-is}
 use Rattle.reliability.proofs.Enclosure.{lawful}
-use Rattle.reliability.proofs.Weights.{Near, spread-enclosed, no-units}
+use Rattle.reliability.proofs.Weights.{Near, gaps, low-enclosed, no-units}
+use Rattle.reliability.proofs.Validity.{valued}
 use Rattle.reliability.proofs.Promises as rule
 
--- equal values: the low ones are exact weights
-pub equal-enclosed : (g : Network) → Valid g → Equal g → AllEnclosed (map (λ (e : Link). e .high - e .low) (g .links)) (g .links) (map (weighted Down) (g .links))
-equal-enclosed g valid equal = spread-enclosed (g .links) (λ e m. valid .proper e m .range Down) (λ e m. le-of-eq (equal e m))
+-- a network's low values as exact weights, over S to the power m
+pub low-weights : (g : Network) → Valid g → AllEnclosed (gaps (g .links)) (g .links) (map (weighted Down) (g .links))
+low-weights g valid = low-enclosed (g .links) (valued valid)
 
-pub equal-total : (g : Network) → Valid g → total (map (weighted Down) (g .links)) ≡ S ^ length (g .links)
-equal-total g valid = total-is Down (g .links) (λ e m. valid .proper e m .range Down)
+pub low-total : (g : Network) → Valid g → total (map (weighted Down) (g .links)) ≡ S ^ length (g .links)
+low-total g valid = total-is Down (g .links) (valued valid .range Down)
 
 module _ (g : Network) (valid : Valid g) (limit : ℕ) where
   -- demand 3: the splits taken are those needed, as far as the limit goes
@@ -44,6 +44,9 @@ module _ (g : Network) (valid : Valid g) (limit : ℕ) where
   pub high-range : figure g limit .high ≤ S
   high-range = rule.figure-range Valid view stepAt lawful chosen first-link g valid limit Up
 
+  pub low-high : figure g limit .low ≤ figure g limit .high
+  low-high = rule.low-high Valid view stepAt lawful chosen first-link g valid limit
+
   -- for any exact weights that the links' values enclose, each off by at most its own units
   module _ {cs : List ℕ} {ws : List Weighted} (h : AllEnclosed cs (g .links) ws) where
     pub near-exact : (d : Direction) → Near d (budget (length (g .links)) (length (g .nodes)) + altogether cs) (total ws) (sum (g .nodes) ws []) (figure g limit)
@@ -52,9 +55,6 @@ module _ (g : Network) (valid : Valid g) (limit : ℕ) where
     -- demand 2
     pub enclosure : (figure g limit .low * total ws ≤ S * sum (g .nodes) ws []) × (S * sum (g .nodes) ws [] ≤ figure g limit .high * total ws)
     enclosure = rule.enclosure Valid view stepAt lawful chosen first-link g valid limit h
-
-    pub low-high : figure g limit .low ≤ figure g limit .high
-    low-high = rule.low-high Valid view stepAt lawful chosen first-link g valid limit h
 
     -- demand 3: a finished pair is at most 2m + 4n wide, and twice the links' own units
     pub width : figure g limit .finished ≡ true → figure g limit .high ≤ figure g limit .low + (2 * length (g .links) + 4 * length (g .nodes) + 2 * altogether cs)
@@ -65,11 +65,8 @@ module _ (g : Network) (valid : Valid g) (limit : ℕ) where
     -- demand 2: low × S^m ≤ S × N ≤ high × S^m
     pub enclosure-of-equal : (figure g limit .low * S ^ length (g .links) ≤ S * exact Down g) × (S * exact Down g ≤ figure g limit .high * S ^ length (g .links))
     unfolding exact
-    enclosure-of-equal = rw (← equal-total g valid) (enclosure (equal-enclosed g valid equal))
-
-    pub low-high-of-equal : figure g limit .low ≤ figure g limit .high
-    low-high-of-equal = low-high (equal-enclosed g valid equal)
+    enclosure-of-equal = rw (← low-total g valid) (enclosure (low-weights g valid))
 
     -- demand 3: a finished pair is at most 2m + 4n wide
     pub width-of-equal : figure g limit .finished ≡ true → figure g limit .high ≤ figure g limit .low + (2 * length (g .links) + 4 * length (g .nodes))
-    width-of-equal done = omega (arith, width (equal-enclosed g valid equal) done, no-units (g .links) equal)
+    width-of-equal done = omega (arith, width (low-weights g valid) done, no-units (g .links) equal)

@@ -9,13 +9,15 @@ use native.Mathlib.Decide.{decLe}
 use lib.Dec.{eqb}
 use lib.ListN.{length, set}
 use borrow.Author.Tests.{eqb-false}
+use Rattle.rounding.specs.Rounding.{S}
 use Rattle.rounding.specs.declared.Direction.{Direction}
 use Rattle.rounding.specs.declared.Direction.the-variants.{Down, Up}
-use Rattle.rounding.proofs.Operations.{parallel-range, series-range}
+use Rattle.rounding.proofs.Operations.{parallel-range, parallel-order}
 use Rattle.reliability.specs.declared.Link.{Link}
 use Rattle.reliability.specs.Networks.{Network, Ascending, Proper, Valid, ends, value, linked, linkAt}
-use Rattle.reliability.specs.Rule.{across, inParallel, inSeries, rename, renamed, deleteAt, without, deleted, removed, joined, contracted}
+use Rattle.reliability.specs.Rule.{across, inParallel, rename, renamed, deleteAt, without, deleted, removed, joined, contracted}
 use Rattle.reliability.proofs.Lists.{mem-delete, mem-set, delete-set, getD-mem, mem-without, without-mem}
+use Rattle.reliability.proofs.Lawful.{Valued}
 use Rattle.reliability.proofs.States.{Joins, Off}
 
 pub value-linked : (d : Direction) (a b : ℕ) (v : Direction → ℕ) → value d (linked a b v) ≡ v d
@@ -61,13 +63,22 @@ larger-node vs e p = ⊎-elim (λ q. Memᴰ·cast (sym (q .0)) (p .a-node)) (λ 
 module _ (vs : List ℕ) (e f : Link) (p : Proper vs e) (q : Proper vs f) where
   pub parallel-proper : Proper vs (inParallel e f)
   parallel-proper =
-      record { a-node = p .a-node; b-node = p .b-node; range = λ d. rw value-linked (parallel-range d (value d e) (value d f) (p .range d) (q .range d)) }
+      record {
+        a-node = p .a-node;
+        b-node = p .b-node;
+        range = λ d. rw value-linked (parallel-range d (value d e) (value d f) (p .range d) (q .range d));
+        order = parallel-order (p .order) (p .range Up) (q .order) (q .range Up);
+      }
 
-  pub series-proper : (v : ℕ) → Proper vs (inSeries v e f)
-  series-proper v =
-      record { a-node = across-node vs v e p; b-node = across-node vs v f q; range = λ d. rw value-linked (series-range d (value d e) (value d f) (p .range d) (q .range d)) }
+  -- the neighbours of v joined by a link of whatever value
+  pub across-proper : (v : ℕ) (x : Direction → ℕ) → ((d : Direction) → x d ≤ S) → x Down ≤ x Up → Proper vs (linked (across v e) (across v f) x)
+  across-proper v x range order =
+      record { a-node = across-node vs v e p; b-node = across-node vs v f q; range = λ d. rw value-linked (range d); order = order }
 
 -- ---- networks
+
+pub valued : {g : Network} → Valid g → Valued (g .links)
+valued valid = record { range = λ d e m. valid .proper e m .range d; order = λ e m. valid .proper e m .order }
 
 module _ (g : Network) (valid : Valid g) where
   pub proper-at : (i : ℕ) → i < length (g .links) → Proper (g .nodes) (linkAt g i)
@@ -86,7 +97,7 @@ module _ (g : Network) (valid : Valid g) where
   removed-valid v off = record {
     ascending = ascending-without v (g .nodes) (valid .ascending);
     proper = λ e m. let p = valid .proper e m in
-        record { a-node = without-mem v (e .a) (g .nodes) (p .a-node) (off e m .0); b-node = without-mem v (e .b) (g .nodes) (p .b-node) (off e m .1); range = p .range };
+        record { a-node = without-mem v (e .a) (g .nodes) (p .a-node) (off e m .0); b-node = without-mem v (e .b) (g .nodes) (p .b-node) (off e m .1); range = p .range; order = p .order };
   }
 
   module _ (e : Link) (p : Proper (g .nodes) e) (differ : e .a ≡ e .b → ⊥) where
@@ -109,5 +120,5 @@ module _ (g : Network) (valid : Valid g) where
       proper = λ f m.
           let (k, n, q) = Memᴰ·of-map (renamed keep gone) (g .links) m in
           let r = valid .proper k n in
-          subst (Proper (without gone (g .nodes))) q (record { a-node = rename-node (k .a) (r .a-node); b-node = rename-node (k .b) (r .b-node); range = λ d. rw value-linked (r .range d) });
+          subst (Proper (without gone (g .nodes))) q (record { a-node = rename-node (k .a) (r .a-node); b-node = rename-node (k .b) (r .b-node); range = λ d. rw value-linked (r .range d); order = r .order });
     }

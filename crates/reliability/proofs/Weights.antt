@@ -19,7 +19,7 @@ use Rattle.reliability.specs.Exact.{Weighted, weighted, sum, total, Encl
 use Rattle.reliability.specs.Rule.{side, deleteAt, renamed, rename}
 use Rattle.reliability.proofs.States.{moved, sum-more, sum-total}
 use Rattle.reliability.proofs.Within.{Within, equal, weaken, trans, plus, by, same, cancelled, shares}
-use Rattle.reliability.proofs.Lawful.{over}
+use Rattle.reliability.proofs.Lawful.{over, Valued}
 
 pub power-pos : (m : ℕ) → 0 < S ^ m
 power-pos m = one-le-pow m S (lit< tt)
@@ -54,16 +54,18 @@ module _ (d : Direction) (p s b c C A B A′ B′ T P : ℕ) where
       weaken d true (le-of-eq (ap (λ k. σ * k + S * P * (c * σ * T)) (portions p (C * (T * P)) hp) ∙ split-units S σ)) (λ t. t)
       (same d (split-left S (S - p) σ) (split-right S) (trans d first (same d (split-mid S (S - p) σ) refl second)))
 
-pub near : (d : Direction) (vs : List ℕ) {cs : List ℕ} {es : List Link} {ws : List Weighted} → ((e : Link) → List·Memᴰ e es → value d e ≤ S) → AllEnclosed cs es ws → (t : List Ends)
+later : {e : Link} {es : List Link} → Valued (e ∷ es) → Valued es
+later h = record { range = λ d f m. h .range d f (List·Memᴰ·tail m); order = λ f m. h .order f (List·Memᴰ·tail m) }
+
+pub near : (d : Direction) (vs : List ℕ) {cs : List ℕ} {es : List Link} {ws : List Weighted} → Valued es → AllEnclosed cs es ws → (t : List Ends)
     → Within d true (altogether cs * (total ws * S ^ length es)) (S * sum vs (map (weighted d) es) t * total ws) (S * sum vs ws t * S ^ length es)
 unfolding sum total altogether
-near d vs range nil t = weaken d true zero-le (λ t. t) (equal d true refl)
-near d vs range (cons {c} {e} {w} {cs} {es} {ws} h hs) t =
-    let below : (f : Link) → List·Memᴰ f es → value d f ≤ S = λ f m. range f (List·Memᴰ·tail m) in
-    let sound = rw (← h .joins) at (near d vs below hs (w .joins ∷ t)) in
+near d vs v nil t = weaken d true zero-le (λ t. t) (equal d true refl)
+near d vs v (cons {c} {e} {w} {cs} {es} {ws} h hs) t =
+    let sound = rw (← h .joins) at (near d vs (later v) hs (w .joins ∷ t)) in
     rw (← h .joins, pow-succ' S (length es))
     (one-more d (value d e) (w .sound) (w .broken) c (altogether cs) (sum vs ws (ends e ∷ t)) (sum vs ws t) (sum vs (map (weighted d) es) (ends e ∷ t)) (sum vs (map (weighted d) es) t) (total ws) (S ^ length es)
-    (range e (List·Memᴰ·head refl)) (sum-more vs ws (ends e) t) (sum-total vs ws (ends e ∷ t)) (within d h) sound (near d vs below hs t))
+    (v .range d e (List·Memᴰ·head refl)) (sum-more vs ws (ends e) t) (sum-total vs ws (ends e ∷ t)) (within d h) sound (near d vs (later v) hs t))
 
 -- ---- figures beside the exact weights
 
@@ -78,15 +80,15 @@ in-all : (B C T P : ℕ) → T * (B * P) + C * (T * P) ≡ (B + C) * T * P
 in-all B C T P = simp ring
 
 -- what is near the exact sum at its own direction's values is near that of the weights
-pub near-weights : (d : Direction) (c : ℕ) (f : Figure) (vs : List ℕ) {cs : List ℕ} {es : List Link} {ws : List Weighted} → ((e : Link) → List·Memᴰ e es → value d e ≤ S) → AllEnclosed cs es ws
+pub near-weights : (d : Direction) (c : ℕ) (f : Figure) (vs : List ℕ) {cs : List ℕ} {es : List Link} {ws : List Weighted} → Valued es → AllEnclosed cs es ws
     → Near d c (S ^ length es) (over d vs es) f → Near d (c + altogether cs) (total ws) (sum vs ws []) f
-near-weights d c f vs {cs} {es} {ws} range h given =
+near-weights d c f vs {cs} {es} {ws} v h given =
     let T = total ws in
     let P = S ^ length es in
     cancelled d P (power-pos (length es))
     (weaken d (f .finished) (le-of-eq (in-all c (altogether cs) T P)) (λ t. t)
     (same d (to-right (side d f) T P) refl
-    (trans d (by d T given) (same d (mul-comm (S * over d vs es) T) refl (weaken d (f .finished) (le-refl _) (λ t. refl) (near d vs range h []))))))
+    (trans d (by d T given) (same d (mul-comm (S * over d vs es) T) refl (weaken d (f .finished) (le-refl _) (λ t. refl) (near d vs v h []))))))
 
 -- both figures
 module _ (c T N : ℕ) (f : Figure) (some : 0 < T) (given : (d : Direction) → Near d c T N f) where
@@ -126,11 +128,11 @@ unfolding total
 total-moved keep gone [] = refl
 total-moved keep gone (w ∷ ws) = ap (λ n. (w .sound + w .broken) * n) (total-moved keep gone ws)
 
--- ---- values that are equal, or in order
+-- ---- values in order
 
--- a link's low value is no higher than its high one
-abbrev pub Spread : List Link → Type 0
-Spread es = (e : Link) → List·Memᴰ e es → e .low ≤ e .high
+-- what lies between a link's low and high value, in units
+abbrev pub gaps : List Link → List ℕ
+gaps = map (λ (e : Link). e .high - e .low)
 
 -- a link's low value as its weights: the high one is off by what lies between
 pub link-enclosed : (c : ℕ) (e : Link) → e .low ≤ S → e .low ≤ e .high → e .high ≤ e .low + c → Enclosed c e (weighted Down e)
@@ -146,14 +148,14 @@ link-enclosed c e range order near =
       high-near = rw all (omega (arith, mul-le-mul-right S near, add-mul (e .low) c S));
     }
 
-pub spread-enclosed : (es : List Link) → ((e : Link) → List·Memᴰ e es → e .low ≤ S) → Spread es → AllEnclosed (map (λ (e : Link). e .high - e .low) es) es (map (weighted Down) es)
-spread-enclosed [] range h = nil
-spread-enclosed (e ∷ es) range h =
-    let order : e .low ≤ e .high = h e (List·Memᴰ·head refl) in
-    cons {e = e} {w = weighted Down e} (link-enclosed (e .high - e .low) e (range e (List·Memᴰ·head refl)) order (omega arith))
-    (spread-enclosed es (λ f m. range f (List·Memᴰ·tail m)) (λ f m. h f (List·Memᴰ·tail m)))
+-- the low values as exact weights
+pub low-enclosed : (es : List Link) → Valued es → AllEnclosed (gaps es) es (map (weighted Down) es)
+low-enclosed [] h = nil
+low-enclosed (e ∷ es) h =
+    let order : e .low ≤ e .high = h .order e (List·Memᴰ·head refl) in
+    cons {e = e} {w = weighted Down e} (link-enclosed (e .high - e .low) e (h .range Down e (List·Memᴰ·head refl)) order (omega arith)) (low-enclosed es (later h))
 
-pub no-units : (es : List Link) → ((e : Link) → List·Memᴰ e es → e .low ≡ e .high) → altogether (map (λ (e : Link). e .high - e .low) es) ≡ 0
+pub no-units : (es : List Link) → ((e : Link) → List·Memᴰ e es → e .low ≡ e .high) → altogether (gaps es) ≡ 0
 unfolding altogether
 no-units [] h = refl
 no-units (e ∷ es) h = omega (arith, h e (List·Memᴰ·head refl), no-units es (λ f m. h f (List·Memᴰ·tail m)))

@@ -1,7 +1,7 @@
 -- Importance of a link and difference of two networks.
 use Prim.Native.Nat.{ℕ, _+_, _-_, _*_, _^_}
 use mathlib.Core.List.{List, [], _∷_}
-use mathlib.Core.Bool.{true, false, _&&_}
+use mathlib.Core.Bool.{true, false, cond, _&&_}
 use lib.ListN.{length}
 use lib.IntN.{ℤ, pos, _-ℤ_}
 use Rattle.rounding.specs.Rounding.{S}
@@ -19,6 +19,10 @@ brokenAt i g = deleted i g
 -- the network with link i sound: contraction; a loop's is the network without it
 unfoldable pub soundAt : ℕ → Network → Network
 soundAt i g = elim (isLoop (linkAt g i)) [ true ↦ deleted i g | false ↦ contracted (linkAt g i) (deleted i g) ]
+
+-- how many nodes it has: one less where link i is no loop
+abbrev pub soundCount : Network → ℕ → ℕ
+soundCount g i = cond (isLoop (linkAt g i)) (length (g .nodes)) (length (g .nodes) - 1)
 
 -- sound minus broken; a truncated difference is max(0, ..)
 abbrev pub lessened : Figure → Figure → Figure

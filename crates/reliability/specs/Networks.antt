@@ -42,11 +42,12 @@ unfoldable pub Ascending : List ℕ → Type 0
 Ascending [] = Unit {0}
 Ascending (v ∷ vs) = ((u : ℕ) → List·Memᴰ u vs → v < u) × Ascending vs
 
--- a link whose ends are among the nodes and whose values are at most S
+-- a link whose ends are among the nodes and whose values are in order and at most S
 pub record Proper (vs : List ℕ) (e : Link) : Type 0 where
   pub a-node : List·Memᴰ (e .a) vs
   pub b-node : List·Memᴰ (e .b) vs
   pub range : (d : Direction) → value d e ≤ S
+  pub order : e .low ≤ e .high
 
 pub record Valid (g : Network) : Type 0 where
   pub ascending : Ascending (g .nodes)

@@ -1,9 +1,10 @@
 -- What rounding down and up mean, once for both directions and any divisor.
-use Prim.Native.Nat.{ℕ, _+_, _-_, _*_, _/_, _%_, _≤_, _<_}
+use Prim.Native.Nat.{ℕ, _+_, _-_, _*_, _/_, _%_, _≤_, _<_, zero-le}
 use mathlib.Core.Path.{_≡_, sym, ap, _∙_}
 use mathlib.Core.Logic.{_↔_}
 use native.Mathlib.Nat.{add-assoc, add-comm, add-left-comm, add-mul, mul-add, mul-assoc, mul-left-comm, one-mul, mul-comm, div-zero, mul-right-comm, mul-sub, mul-le-mul-left, mul-le-mul-right, le-trans, le-refl, le-antisymm, le-div-iff-mul-le, div-lt-iff-lt-mul, div-mul-le-self, lt-div-mul-add, le-of-mul-le-mul-right, lt-of-mul-lt-mul-right, div-add-mod'}
 use native.Mathlib.Omega.{arith}
+use native.Mathlib.Decide.{decLt}
 use Rattle.rounding.specs.declared.Direction.{Direction}
 use Rattle.rounding.specs.declared.Direction.the-variants.{Down, Up}
 use Rattle.rounding.specs.Rounding.{quotient, opposite}
@@ -100,6 +101,13 @@ module _ (x : ℕ) {y : ℕ} (pos : 0 < y) where
       let below : x / y < u = lt-of-mul-lt-mul-right y (omega (arith, div-add-mod' x y, rounds Up x pos .bounds .order)) in
       let above = nearest Up (x / y + 1) x pos .1 (record { order = omega (arith, one-more (x / y) y, lt-div-mul-add {a = x} pos) }) in
       omega arith
+
+pub down-up : (x y : ℕ) → quotient Down x y ≤ quotient Up x y
+down-up x y = go (decLt 0 y)
+  where
+    go : Dec (0 < y) → quotient Down x y ≤ quotient Up x y
+    go (yes pos) = le-of-mul-le-mul-right (le-trans (rounds Down x pos .bounds .order) (rounds Up x pos .bounds .order)) pos
+    go (no none) = let z : y ≡ 0 = omega arith in rw (z, over-zero Down x) zero-le
 
 pub sub-mul : (a b y : ℕ) → (a - b) * y ≡ a * y - b * y
 sub-mul a b y = mul-comm (a - b) y ∙ mul-sub y a b ∙ simp mul-comm

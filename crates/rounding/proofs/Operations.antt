@@ -1,4 +1,4 @@
--- Each operation's laws: rounded from its exact quotient, monotone in each argument, at most S.
+-- Each operation's laws: rounded from its exact quotient, monotone in each argument, at most S; of values in order, in order.
 use Prim.Native.Nat.{ℕ, _+_, _-_, _*_, _/_, _≤_, _<_, zero-le}
 use mathlib.Core.Path.{_≡_, sym, ap, _∙_, subst}
 use native.Mathlib.Nat.{div-le-of-le-mul, add-mul, mul-comm, mul-assoc, mul-le-mul, mul-le-mul-left, mul-le-mul-right, le-trans, le-of-eq, add-sub-of-le, add-le-add}
@@ -6,8 +6,9 @@ use native.Mathlib.Omega.{arith}
 use native.Mathlib.Decide.{decLt}
 use lib.Dec.{lit<}
 use Rattle.rounding.specs.declared.Direction.{Direction}
+use Rattle.rounding.specs.declared.Direction.the-variants.{Down, Up}
 use Rattle.rounding.specs.Rounding.{S, quotient, product, parallel, either, series, factor, split}
-use Rattle.rounding.proofs.Laws.{Rounds, rounds, monotone, over-zero, of-multiple, complement, rearranged, ring}
+use Rattle.rounding.proofs.Laws.{Rounds, rounds, monotone, over-zero, of-multiple, down-up, complement, rearranged, ring}
 
 unit : 0 < S
 unit = lit< tt
@@ -75,6 +76,10 @@ pub factor-range : (d : Direction) (p q : ℕ) → p ≤ S → q ≤ S → facto
 unfolding factor
 factor-range d p q hp hq = range d (either p q) (either-range p q hp hq)
 
+pub factor-order : {p p′ q q′ : ℕ} → p ≤ p′ → p′ ≤ S → q ≤ q′ → q′ ≤ S → factor Down p q ≤ factor Up p′ q′
+unfolding factor
+factor-order {p} {p′} {q} {q′} h hp k hq = le-trans (factor-monotone Down h hp k hq) (down-up (either p′ q′) S)
+
 -- the factor is 0 where W is
 pub factor-zero : (d : Direction) (p q : ℕ) → either p q ≡ 0 → factor d p q ≡ 0
 unfolding factor
@@ -90,12 +95,12 @@ parallel-is-factor d p q hp hq =
 pub parallel-rounds : (d : Direction) (p q : ℕ) → p ≤ S → q ≤ S → Rounds d (parallel d p q) (either p q) S
 parallel-rounds d p q hp hq = rw (parallel-is-factor d p q hp hq) (factor-rounds d p q)
 
-pub parallel-monotone : (d : Direction) {p p′ q q′ : ℕ} → p ≤ p′ → p′ ≤ S → q ≤ q′ → q′ ≤ S → parallel d p q ≤ parallel d p′ q′
-parallel-monotone d {p} {p′} {q} {q′} h hp k hq =
-    rw (parallel-is-factor d p q (le-trans h hp) (le-trans k hq), parallel-is-factor d p′ q′ hp hq) (factor-monotone d h hp k hq)
-
 pub parallel-range : (d : Direction) (p q : ℕ) → p ≤ S → q ≤ S → parallel d p q ≤ S
 parallel-range d p q hp hq = rw (parallel-is-factor d p q hp hq) (factor-range d p q hp hq)
+
+pub parallel-order : {p p′ q q′ : ℕ} → p ≤ p′ → p′ ≤ S → q ≤ q′ → q′ ≤ S → parallel Down p q ≤ parallel Up p′ q′
+parallel-order {p} {p′} {q} {q′} h hp k hq =
+    rw (parallel-is-factor Down p q (le-trans h hp) (le-trans k hq), parallel-is-factor Up p′ q′ hp hq) (factor-order h hp k hq)
 
 -- ---- series
 pub series-rounds : (d : Direction) (p q : ℕ) → 0 < either p q → Rounds d (series d p q) (S * (p * q)) (either p q)
@@ -143,6 +148,10 @@ series-monotone d {p} {p′} {q} {q′} h hp k hq = go (decLt 0 (either p q))
         monotone d (S * (p * q)) (S * (p′ * q′)) pos (le-trans pos (either-monotone h hp k hq))
         (rw (mul-assoc S (p * q) (either p′ q′), mul-assoc S (p′ * q′) (either p q)) (mul-le-mul-left S fractions))
     go (no none) = rw (series-zero d p q (omega arith)) zero-le
+
+pub series-order : {p p′ q q′ : ℕ} → p ≤ p′ → p′ ≤ S → q ≤ q′ → q′ ≤ S → series Down p q ≤ series Up p′ q′
+unfolding series
+series-order {p} {p′} {q} {q′} h hp k hq = le-trans (series-monotone Down h hp k hq) (down-up (S * (p′ * q′)) (either p′ q′))
 
 -- ---- split: monotone in both figures, and in the value where sound is no less than broken
 pub split-rounds : (d : Direction) (p x y : ℕ) → Rounds d (split d p x y) (p * x + (S - p) * y) S
