@@ -53,41 +53,12 @@ module _ (g : Network) (valid : Valid g) (i : ℕ) (place : i < length (g .links
   abbrev sound-if : Bool → Network
   sound-if t = elim t [ true ↦ deleted i g | false ↦ contracted e (deleted i g) ]
 
-  pub broken-valid : Valid (brokenAt i g)
-  broken-valid = deleted-valid g valid i
-
-  pub sound-valid : Valid (soundAt i g)
-  unfolding soundAt
-  sound-valid = by-loop (λ t. Valid (sound-if t)) (λ l. broken-valid) (λ n. contracted-valid (deleted i g) broken-valid e (proper-at g valid i place) n)
-
-  pub broken-links : length (brokenAt i g .links) ≡ length (g .links) - 1
-  broken-links = let l = length-delete {i = i} (g .links) place in omega arith
-
-  pub sound-links : length (soundAt i g .links) ≡ length (g .links) - 1
-  unfolding soundAt
-  sound-links = by-loop (λ t. length (sound-if t .links) ≡ length (g .links) - 1) (λ l. broken-links) (λ n. length-map (deleteAt i (g .links)) (renamed keep gone) ∙ broken-links)
-
-  -- n nodes, one less where link i is no loop
-  pub sound-nodes : length (soundAt i g .nodes) ≤ soundCount g i
-  unfolding soundAt
-  sound-nodes = by-loop (λ t. length (sound-if t .nodes) ≤ cond t (length (g .nodes)) (length (g .nodes) - 1)) (λ l. le-refl (length (g .nodes)))
-      (λ n. let fewer = without-less gone (g .nodes) (larger-node (g .nodes) e (proper-at g valid i place)) in omega arith)
-
   -- the weights of the other links, where link i is sound
   abbrev weights-if : Bool → List Weighted → List Weighted
   weights-if t ws = elim t [ true ↦ deleteAt i ws | false ↦ map (moved keep gone) (deleteAt i ws) ]
 
   unfoldable pub soundWeights : List Weighted → List Weighted
   soundWeights ws = weights-if (isLoop e) ws
-
-  pub sound-encloses : {cs : List ℕ} {ws : List Weighted} → AllEnclosed cs (g .links) ws → AllEnclosed (deleteAt i cs) (soundAt i g .links) (soundWeights ws)
-  unfolding soundAt soundWeights
-  sound-encloses {cs} {ws} h =
-      by-loop (λ t. AllEnclosed (deleteAt i cs) (sound-if t .links) (weights-if t ws)) (λ l. all-deleted i h) (λ n. all-renamed keep gone (all-deleted i h))
-
-  pub sound-total : (ws : List Weighted) → total (soundWeights ws) ≡ total (deleteAt i ws)
-  unfolding soundWeights
-  sound-total ws = by-loop (λ t. total (weights-if t ws) ≡ total (deleteAt i ws)) (λ l. refl) (λ n. total-moved keep gone (deleteAt i ws))
 
   -- the sum of the network with link i sound is the sum with link i in every set
   pub sound-sum : (ws : List Weighted) → sum (soundAt i g .nodes) (soundWeights ws) [] ≡ soundSum g ws i
@@ -130,6 +101,35 @@ module _ (g : Network) (valid : Valid g) (i : ℕ) (place : i < length (g .links
     -- with the link sound no less is connected, so a truncated difference is the difference
     pub sound-broken : exact d (brokenAt i g) ≤ exact d (soundAt i g)
     sound-broken = rw (← sound-exact, ← broken-exact) (sound-more values)
+
+  pub broken-valid : Valid (brokenAt i g)
+  broken-valid = deleted-valid g valid i
+
+  pub sound-valid : Valid (soundAt i g)
+  unfolding soundAt
+  sound-valid = by-loop (λ t. Valid (sound-if t)) (λ l. broken-valid) (λ n. contracted-valid (deleted i g) broken-valid e (proper-at g valid i place) n)
+
+  pub broken-links : length (brokenAt i g .links) ≡ length (g .links) - 1
+  broken-links = let l = length-delete {i = i} (g .links) place in omega arith
+
+  pub sound-links : length (soundAt i g .links) ≡ length (g .links) - 1
+  unfolding soundAt
+  sound-links = by-loop (λ t. length (sound-if t .links) ≡ length (g .links) - 1) (λ l. broken-links) (λ n. length-map (deleteAt i (g .links)) (renamed keep gone) ∙ broken-links)
+
+  -- n nodes, one less where link i is no loop
+  pub sound-nodes : length (soundAt i g .nodes) ≤ soundCount g i
+  unfolding soundAt
+  sound-nodes = by-loop (λ t. length (sound-if t .nodes) ≤ cond t (length (g .nodes)) (length (g .nodes) - 1)) (λ l. le-refl (length (g .nodes)))
+      (λ n. let fewer = without-less gone (g .nodes) (larger-node (g .nodes) e (proper-at g valid i place)) in omega arith)
+
+  pub sound-encloses : {cs : List ℕ} {ws : List Weighted} → AllEnclosed cs (g .links) ws → AllEnclosed (deleteAt i cs) (soundAt i g .links) (soundWeights ws)
+  unfolding soundAt soundWeights
+  sound-encloses {cs} {ws} h =
+      by-loop (λ t. AllEnclosed (deleteAt i cs) (sound-if t .links) (weights-if t ws)) (λ l. all-deleted i h) (λ n. all-renamed keep gone (all-deleted i h))
+
+  pub sound-total : (ws : List Weighted) → total (soundWeights ws) ≡ total (deleteAt i ws)
+  unfolding soundWeights
+  sound-total ws = by-loop (λ t. total (weights-if t ws) ≡ total (deleteAt i ws)) (λ l. refl) (λ n. total-moved keep gone (deleteAt i ws))
 
   -- ---- importance
 

@@ -24,9 +24,10 @@ use Rattle.reliability.proofs.States.{sum-total}
 use Rattle.reliability.proofs.Within.{Within, equal, rounded, weaken, trans, plus, by, same}
 use Rattle.reliability.proofs.Lawful.{Leaves, View, exactly, Place, Reduces, Fewer, Sized, Lawful, Choice}
 use Rattle.reliability.proofs.Runs.{side-bounded, Ranged}
-use Rattle.reliability.proofs.Steps.{view, Fits, fits-at, left-by, settled-by}
+use Rattle.reliability.proofs.Steps.{view, Fits, fits-at}
 use Rattle.reliability.proofs.Validity.{valued}
 use Rattle.reliability.proofs.Reductions.{reduces, total-is}
+use Rattle.reliability.proofs.Remainders.{left-by, settled-by}
 
 -- one power more
 scale : (m x : ℕ) → x * S ^ suc m ≡ S * (x * S ^ m)
@@ -139,7 +140,7 @@ module _ {N : Type 0} (Valid : N → Type 0) (μ : View N) (step : ℕ → N →
 
   below : (d : Direction) (m : ℕ) (g : N) → Sized Valid μ m g → exactly μ d g ≤ S ^ m
   below d m g h =
-      le-trans (sum-total (μ .hang g) (map (weighted d) (μ .links g)) [])
+      le-trans (sum-total (μ .terminals g) (map (weighted d) (μ .links g)) [])
       (le-of-eq (total-is d (μ .links g) (lawful .values g (h .valid) .range d) ∙ ap (λ n. S ^ n) (h .size)))
 
   module _ (choose : N → ℕ) (choice : Choice μ choose) where

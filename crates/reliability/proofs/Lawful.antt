@@ -19,7 +19,7 @@ Leaves P (rest g) = P g
 Leaves P (scaled k g) = P g × ((d : Direction) → k d ≤ S)
 Leaves P (branches e sound broken) = P sound × P broken × ((d : Direction) → value d e ≤ S)
 
--- the sum over the sets of the links es by which the nodes vs hang together, at one direction's values
+-- the sum over the sets of the links es that connect the nodes vs, at one direction's values
 abbrev pub over : Direction → List ℕ → List Link → ℕ
 over d vs es = sum vs (map (weighted d) es) []
 
@@ -28,15 +28,15 @@ pub record Valued (es : List Link) : Type 0 where
   pub range : (d : Direction) (e : Link) → List·Memᴰ e es → value d e ≤ S
   pub order : (e : Link) → List·Memᴰ e es → e .low ≤ e .high
 
--- what a network of any kind shows: its links, its nodes, and those of them that have to hang together
+-- what a network of any kind shows: its links, its nodes, and its terminals, the nodes that have to be connected
 pub record View (N : Type 0) : Type 0 where
   pub links : N → List Link
   pub nodes : N → List ℕ
-  pub hang : N → List ℕ
+  pub terminals : N → List ℕ
 
 module _ {N : Type 0} (μ : View N) where
   abbrev pub exactly : Direction → N → ℕ
-  exactly d g = over d (μ .hang g) (μ .links g)
+  exactly d g = over d (μ .terminals g) (μ .links g)
 
   -- i is the place of a link, where there is one
   abbrev pub Place : N → ℕ → Type 0

@@ -8,6 +8,7 @@ pub mod Lawful
 pub mod Runs
 pub mod Steps
 pub mod Reductions
+pub mod Remainders
 pub mod Enclosure
 pub mod Unrolled
 pub mod Weights

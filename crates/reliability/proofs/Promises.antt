@@ -41,16 +41,16 @@ module _ {N : Type 0} (Valid : N → Type 0) (μ : View N) (step : ℕ → N →
 
   -- for any exact weights that the links' values enclose, each off by at most its own units
   module _ {cs : List ℕ} {ws : List Weighted} (h : AllEnclosed cs (μ .links g) ws) where
-    pub near-exact : (d : Direction) → Near d (budget m n + altogether cs) (total ws) (sum (μ .hang g) ws []) (run work l)
-    near-exact d = near-weights d (budget m n) (run work l) (μ .hang g) (lawful .values g valid) h (encloses Valid μ step lawful choose choice d m g sized l)
+    pub near-exact : (d : Direction) → Near d (budget m n + altogether cs) (total ws) (sum (μ .terminals g) ws []) (run work l)
+    near-exact d = near-weights d (budget m n) (run work l) (μ .terminals g) (lawful .values g valid) h (encloses Valid μ step lawful choose choice d m g sized l)
 
-    pub enclosure : (run work l .low * total ws ≤ S * sum (μ .hang g) ws []) × (S * sum (μ .hang g) ws [] ≤ run work l .high * total ws)
+    pub enclosure : (run work l .low * total ws ≤ S * sum (μ .terminals g) ws []) × (S * sum (μ .terminals g) ws [] ≤ run work l .high * total ws)
     enclosure = (near-exact Down .bounds, near-exact Up .bounds)
 
     -- a finished pair is at most 2m + 4n wide, and twice the links' own units
     pub width : run work l .finished ≡ true → run work l .high ≤ run work l .low + (2 * m + 4 * n + 2 * altogether cs)
     width done =
-        let w = no-wider (budget m n + altogether cs) (total ws) (sum (μ .hang g) ws []) (run work l) (total-pos h) near-exact done in
+        let w = no-wider (budget m n + altogether cs) (total ws) (sum (μ .terminals g) ws []) (run work l) (total-pos h) near-exact done in
         omega arith
 
   pub low-high : run work l .low ≤ run work l .high

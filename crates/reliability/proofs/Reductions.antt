@@ -112,7 +112,7 @@ all-off d v es clear e m =
     let r = Memᴰ·of-map (weighted d) es m in
     subst (λ (f : Weighted). Off v (f .joins)) (r .2) (clear (r .0) (r .1))
 
--- each step where the nodes vs have to hang together
+-- each step where the nodes vs have to be connected
 module _ (d : Direction) (g : Network) (valid : Valid g) (vs : List ℕ) where
   abbrev es : List Weighted
   es = map (weighted d) (g .links)

@@ -172,7 +172,7 @@ moved-off keep gone (e ∷ es) off =
     let o = off e (List·Memᴰ·head refl) in
     rw (rename-other keep gone (o .0), rename-other keep gone (o .1), moved-off keep gone es (λ f m. off f (List·Memᴰ·tail m)))
 
--- ws are the nodes vs with gone renamed to keep: what must hang together after a contraction
+-- ws are the nodes vs with gone renamed to keep: what has to be connected after a contraction
 pub record Onto (keep gone : ℕ) (vs ws : List ℕ) : Type 0 where
   pub into : (v : ℕ) → List·Memᴰ v vs → List·Memᴰ (rename keep gone v) ws
   pub from : (w : ℕ) → List·Memᴰ w ws → (v : ℕ) × List·Memᴰ v vs × (rename keep gone v ≡ w)
@@ -255,7 +255,7 @@ lone vs es v w differ inv inw off =
     same (f ∷ fs) o = let p = o f (List·Memᴰ·head refl) in (dark (f .joins .a) (p .0) ∙ sym (dark (f .joins .b) (p .1)), same fs (λ g m. o g (List·Memᴰ·tail m)))
 
 module _ (vs : List ℕ) (es : List Weighted) (z : Weighted) (v w : ℕ) (differ : w ≡ v → ⊥) where
-  -- step 5: an end that must hang together with another multiplies, and its neighbour takes its part
+  -- step 5: an end that has to be connected with another multiplies, and its neighbour takes its part
   pub end-law : (ws : List ℕ) → Onto w v vs ws → List·Memᴰ v vs → (o : ℕ) → (o ≡ v → ⊥) → List·Memᴰ o vs
       → (i : ℕ) → i < length es → Joins (getD es i z .joins) v w → AllOff v (deleteAt i es)
       → sum vs es [] ≡ getD es i z .sound * sum ws (deleteAt i es) []

@@ -1,4 +1,4 @@
--- What is known where a step fits, and that what it leaves is a valid network with one link less.
+-- What is known where a step fits.
 use Prim.Native.Nat.{ℕ, suc, _≤_, _<_, zero-le, suc-le-suc}
 use mathlib.Core.Path.{_≡_, refl, sym, _∙_, subst}
 use mathlib.Core.List.{List, [], _∷_, map, List·Memᴰ, List·Memᴰ·head}
@@ -101,7 +101,7 @@ some-link (v ∷ (u ∷ vs)) [] a c h =
     absurd (omega (arith, a .0 u (List·Memᴰ·head refl), eqb-true u v same))
 
 abbrev pub view : View Network
-view = record { links = λ g. g .links; nodes = λ g. g .nodes; hang = λ g. g .nodes }
+view = record { links = λ g. g .links; nodes = λ g. g .nodes; terminals = λ g. g .nodes }
 
 -- ---- a network without loops
 
@@ -122,46 +122,6 @@ module _ (g : Network) (no-loop : Fails isLoop (g .links)) where
       let place = at (some-link vs (g .links) a k h) in
       let e = linkAt g i in
       record { place = place; differ = eqb-false (e .a) (e .b) (no-loop e (getD-mem (g .links) _ place)) }
-
--- a valid network of m links
-abbrev pub SizedNetwork : ℕ → Network → Type 0
-SizedNetwork = Sized Valid view
-
-module _ (m : ℕ) (g : Network) (h : SizedNetwork (suc m) g) where
-  proper-in : {i : ℕ} → i < length (g .links) → Proper (g .nodes) (linkAt g i)
-  proper-in {i} = proper-at g (h .valid) i
-
-  pub deleted-sized : {i : ℕ} → i < length (g .links) → SizedNetwork m (deleted i g)
-  deleted-sized {i} k = record { valid = deleted-valid g (h .valid) i; size = omega (arith, length-delete (g .links) k) }
-
-  pub joined-sized : {i j : ℕ} (e : Link) → i < j → j < length (g .links) → Proper (g .nodes) e → SizedNetwork m (joined i j e g)
-  joined-sized {i} {j} e o k p = record {
-    valid = joined-valid g (h .valid) i j e o p;
-    size = omega (arith, length-delete (set (g .links) i e) (lt-length-set (g .links) i e k), length-set (g .links) i e);
-  }
-
-  removed-sized : (v : ℕ) (f : Network) → SizedNetwork m f → Clear v (f .links) → SizedNetwork m (removed v f)
-  removed-sized v f k off = record { valid = removed-valid f (k .valid) v off; size = k .size }
-
-  pub end-sized : (v i : ℕ) → AtEnd g v i → SizedNetwork m (removed v (deleted i g))
-  end-sized v i k = removed-sized v (deleted i g) (deleted-sized (k .place)) (k .others)
-
-  -- two links at v become one, of whatever value
-  pub across-sized : (v i j : ℕ) → AtSeries g v i j → (x : Direction → ℕ) → ((d : Direction) → x d ≤ S) → x Down ≤ x Up
-      → SizedNetwork m (removed v (joined i j (linked (across v (linkAt g i)) (across v (linkAt g j)) x) g))
-  across-sized v i j k x range order =
-      let e = linkAt g i in
-      let f = linkAt g j in
-      let new = linked (across v e) (across v f) x in
-      let fits : Proper (g .nodes) new = across-proper (g .nodes) e f (proper-in (omega arith)) (proper-in (k .place)) v x range order in
-      let off : Clear v (joined i j new g .links) =
-      λ y n. ⊎-elim (λ (r : y ≡ new). subst (λ (y : Link). Off v (ends y)) (sym r) (k .first .differ, k .second .differ)) (k .others y) (mem-joined (g .links) i j (k .order) n) in
-      removed-sized v (joined i j new g) (joined-sized new (k .order) (k .place) fits) off
-
-  pub contracted-sized : (i : ℕ) → AtSplit g i → SizedNetwork m (contracted (linkAt g i) (deleted i g))
-  contracted-sized i k =
-      let broken = deleted-sized (k .place) in
-      record { valid = contracted-valid (deleted i g) (broken .valid) (linkAt g i) (proper-in (k .place)) (k .differ); size = simp length-map (broken .size) }
 
 -- ---- which step fits
 
@@ -224,33 +184,3 @@ first-link g here = here
 
 pub fits : (g : Network) → Valid g → Fits g (next g)
 fits g valid = fits-at g valid (chosen g) (first-link g)
-
--- ---- what a step leaves
-
-module _ (m : ℕ) (g : Network) (h : SizedNetwork (suc m) g) where
-  proper : {i : ℕ} → i < length (g .links) → Proper (g .nodes) (linkAt g i)
-  proper {i} = proper-at g (h .valid) i
-
-  pub left-by : (s : Step) → Fits g s → Leaves (SizedNetwork m) (leaves g s)
-  unfolding leaves
-  left-by OneNode k = le-refl S
-  left-by Disconnected k = zero-le
-  left-by (Loop i) k = deleted-sized m g h (k .place)
-  left-by (Parallel i j) k =
-      joined-sized m g h _ (k .order) (k .place) (parallel-proper (g .nodes) (linkAt g i) (linkAt g j) (proper (omega arith)) (proper (k .place)))
-  left-by (End v i) k = (end-sized m g h v i k, proper (k .place) .range)
-  left-by (Series v i j) k =
-      let p : Proper (g .nodes) (linkAt g i) = proper (omega arith) in
-      let q = proper (k .place) in
-      (across-sized m g h v i j k _ (λ d. series-range d _ _ (p .range d) (q .range d)) (series-order (p .order) (p .range Up) (q .order) (q .range Up)), λ d. factor-range d _ _ (p .range d) (q .range d))
-  left-by (Split i) k = (contracted-sized m g h i k, deleted-sized m g h (k .place), proper (k .place) .range)
-
-pub settled-by : (g : Network) → length (g .links) ≡ 0 → (s : Step) → Fits g s → (k : ℕ) × (k ≤ S) × (leaves g s ≡ settled k)
-unfolding leaves
-settled-by g h OneNode f = (S, le-refl S, refl)
-settled-by g h Disconnected f = (0, zero-le, refl)
-settled-by g h (Loop i) f = absurd (omega arith)
-settled-by g h (Parallel i j) f = absurd (omega arith)
-settled-by g h (End v i) f = absurd (omega arith)
-settled-by g h (Series v i j) f = absurd (omega arith)
-settled-by g h (Split i) f = absurd (omega arith)

@@ -12,7 +12,8 @@ use Rattle.reliability.specs.Networks.{Network, Valid}
 use Rattle.reliability.specs.Rule.{Remainder, settled, rest, scaled, branches, chosen, next, leaves, stepAt, Tree, ready, multiplied, fork, grown, treeOf, tree, bounded, side, times, blend, unfinished, run, figure}
 use Rattle.reliability.proofs.Lawful.{Leaves, View, Sized, Lawful, Choice}
 use Rattle.reliability.proofs.Runs.{steps, range}
-use Rattle.reliability.proofs.Steps.{view, SizedNetwork, first-link}
+use Rattle.reliability.proofs.Steps.{view, first-link}
+use Rattle.reliability.proofs.Remainders.{SizedNetwork}
 use Rattle.reliability.proofs.Enclosure.{lawful, ranged}
 
 -- ---- one step of a tree
