@@ -15,13 +15,16 @@ use Rattle.reliability.specs.Networks.{Valid, ends, connected}
 use Rattle.reliability.specs.Rule.{isLoop, firstAt, firstPair, lowest, endOf, seriesOf, chosen, _otherwise_, next}
 use Rattle.reliability.proofs.Steps.{Fits, fits}
 use Rattle.network.specs.declared.Network.{Network}
-use Rattle.network.specs.declared.search.Found.the-variants.{At}
-use Rattle.network.specs.declared.search.Pair.the-variants.{Both, Neither}
-use Rattle.network.specs.Places.{pick, rank, placesIn, networkOf, linksOf, nodesOf, indexOf, Used, ranked, Placed, joints, touching, Incidence, found, loops, beside, pairIn, withLinks}
-use Rattle.network.proofs.Sets.{has, has-place, has-below, mem-has, at-node}
+use Rattle.search.specs.declared.Found.the-variants.{At}
+use Rattle.search.specs.declared.Pair.the-variants.{Both, Neither}
+use Rattle.search.specs.Searches.{pick, placesIn, endsByPlace, touching, Incidence, found, loops, beside, pairIn, withLinks}
+use Rattle.network.specs.Places.{rank, networkOf, linksOf, nodesOf, indexOf, Used, ranked, Placed}
+use Rattle.search.proofs.Sets.{has, has-place, has-below, mem-has, at-node}
 use Rattle.network.proofs.Picks.{Sized, allRows}
-use Rattle.network.proofs.Marks.{Lowest, lowest-in, lowest-first, lowest-rest, rest-count, rest-within, links-joints}
-use Rattle.network.proofs.Rules.{first, length-places, paired, hit, pair-members, next-by, loop-rule, pair-rule, end-rule, series-rule}
+use Rattle.search.proofs.Marks.{Lowest, length-places, lowest-in, lowest-first, lowest-rest, rest-count, rest-within}
+use Rattle.search.proofs.Answers.{first, hit, pair-members}
+use Rattle.network.proofs.Ends.{links-ends}
+use Rattle.network.proofs.Rules.{paired, next-by, loop-rule, pair-rule, end-rule, series-rule}
 
 pick-count : {A : Type 0} (us : List Bool) (xs : List A) → length (pick us xs) ≤ howMany us
 unfolding pick
@@ -49,7 +52,7 @@ pub record Whole (n : Network) : Type 0 where
   pub sized : Sized n
   pub no-loop : loops (n .alive) (n .a) (n .b) ≡ []
   pub more : leb (howMany (members (n .nodes))) 1 ≡ false
-  pub whole : connected (nodesOf n) (pick (members (n .alive)) (joints (n .a) (n .b))) ≡ true
+  pub whole : connected (nodesOf n) (pick (members (n .alive)) (endsByPlace (n .a) (n .b))) ≡ true
 
 -- and no two of them are alike
 pub record Unpaired (n : Network) (at : List ℕ) : Type 0 where
@@ -69,8 +72,8 @@ module _ (n : Network) (sized : Sized n) where
   few : (b : Bool) → leb (howMany (members (n .nodes))) 1 ≡ b → leb (length (nodesOf n)) 1 ≡ b
   few b e = ap (λ (l : ℕ). leb l 1) (length-places (n .nodes)) ∙ e
 
-  joined : (b : Bool) → connected (nodesOf n) (pick (members (n .alive)) (joints (n .a) (n .b))) ≡ b → connected (nodesOf n) (map ends (linksOf n)) ≡ b
-  joined b e = ap (connected (nodesOf n)) (links-joints n sized) ∙ e
+  joined : (b : Bool) → connected (nodesOf n) (pick (members (n .alive)) (endsByPlace (n .a) (n .b))) ≡ b → connected (nodesOf n) (map ends (linksOf n)) ≡ b
+  joined b e = ap (connected (nodesOf n)) (links-ends n sized) ∙ e
 
   module _ (no-loop : loops (n .alive) (n .a) (n .b) ≡ []) where
     no-first : firstAt isLoop (linksOf n) ≡ none
@@ -80,7 +83,7 @@ module _ (n : Network) (sized : Sized n) where
     unfolding ranked Placed
     one-right e = (sym (next-by (networkOf n) none no-first true (few true e) _ refl _ refl _ refl _ refl), tt)
 
-    pub apart-right : leb (howMany (members (n .nodes))) 1 ≡ false → connected (nodesOf n) (pick (members (n .alive)) (joints (n .a) (n .b))) ≡ false → Right n Disconnected
+    pub apart-right : leb (howMany (members (n .nodes))) 1 ≡ false → connected (nodesOf n) (pick (members (n .alive)) (endsByPlace (n .a) (n .b))) ≡ false → Right n Disconnected
     unfolding ranked Placed
     apart-right more e = (sym (next-by (networkOf n) none no-first false (few false more) false (joined false e) _ refl _ refl _ refl), tt)
 

@@ -9,9 +9,8 @@ ghost use lib.Dec.{eqb};
 ghost use Prim.Native.Nat.{_+_, _≤_, _<_};
 ghost use Rattle.reliability.specs.Networks.{Valid, linkAt};
 ghost use Rattle.reliability.specs.Rule.{rename, renamed, next, deleteAt, without, deleted, removed, joined, inParallel, inSeries, contracted};
-ghost use Rattle.network.specs.Places.{networkOf, linksOf, nodesOf, nodesIn, from, indexOf, Used, Built, ranked, Placed};
-
-mod search;
+ghost use Rattle.search.specs.Searches.{from, nodesIn};
+ghost use Rattle.network.specs.Places.{networkOf, linksOf, nodesOf, indexOf, Used, Built, ranked, Placed};
 
 pub struct Network {
     pub alive: u64,

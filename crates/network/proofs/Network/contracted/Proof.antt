@@ -4,9 +4,10 @@ use mathlib.Core.List.{map}
 use native.Mathlib.Omega.{arith}
 use Rattle.reliability.specs.Networks.{Proper, linkAt}
 use Rattle.reliability.specs.Rule.{deleteAt, without, renamed, deleted, contracted}
+use Rattle.search.proofs.Sets.{has-place, mem-has}
 use Rattle.network.specs.declared.Network.{Network}
 use Rattle.network.specs.Places.{linksOf, nodesOf, networkOf, Used, indexOf}
-use Rattle.network.proofs.Picks.{Sized, rowAt, link-at, proper-row, node-place}
+use Rattle.network.proofs.Picks.{Sized, rowAt, link-at, proper-row}
 use borrow.Author.Needs.{needs}
 use Rattle.network.proofs.Network.contracted.Statement.{statement}
 use Rattle.network.proofs.Network.contracted.Tie as tie
@@ -37,12 +38,12 @@ element-copy-out-y c = search needs
 merged-requires : tie.Need-merged-requires
 merged-requires c κs =
     let s = c .before .before .before in
-    (s .pre .1, node-place (s .args .t1 .nodes) (proper s .b-node))
+    (s .pre .1, has-place (s .args .t1 .nodes) _ (mem-has (s .args .t1 .nodes) _ (proper s .b-node)))
 
 merged-requires-2 : tie.Need-merged-requires-2
 merged-requires-2 c κs =
     let s = c .before .before .before in
-    (s .pre .1, node-place (s .args .t1 .nodes) (proper s .a-node))
+    (s .pre .1, has-place (s .args .t1 .nodes) _ (mem-has (s .args .t1 .nodes) _ (proper s .a-node)))
 
 returns : tie.Need-returns
 returns c =

@@ -2,8 +2,10 @@ use Prim.Native.Nat.{_-_}
 use mathlib.Core.Path.{ap, _∙_}
 use native.Mathlib.Omega.{arith}
 use Rattle.bits.proofs.Digits.{digits-zero}
-use Rattle.network.specs.Places.{pick, from, Built}
-use Rattle.network.proofs.Picks.{pick-first, pick-none, take-from, full-fits}
+use Rattle.bits.proofs.Operations.{full-fits}
+use Rattle.search.specs.Searches.{pick, from}
+use Rattle.network.specs.Places.{Built}
+use Rattle.network.proofs.Picks.{pick-first, pick-none, take-from}
 use borrow.Author.Needs.{needs}
 use Rattle.network.proofs.Network.new.Statement.{statement}
 use Rattle.network.proofs.Network.new.Tie as tie

@@ -8,10 +8,11 @@ use lib.ListN.{getD}
 use borrow.Author.Needs.{needs}
 use borrow.Author.Tests.{leb-false, not-true, not-false}
 use Rattle.bits.specs.Members.{members, howMany}
-use Rattle.network.specs.Places.{loops, withLinks}
+use Rattle.search.specs.Searches.{loops, withLinks}
 use Rattle.network.proofs.Picks.{Sized}
-use Rattle.network.proofs.Marks.{counted-some, ended, bounded}
-use Rattle.network.proofs.Rules.{missed}
+use Rattle.search.proofs.Marks.{counted-some}
+use Rattle.search.proofs.Answers.{missed}
+use Rattle.network.proofs.Ends.{ended, bounded}
 use Rattle.network.proofs.Next.{Whole, Unpaired, loop-right, one-right, apart-right, pair-right, node, end-right, series-right, split-right}
 use Rattle.network.proofs.Network.step.Statement.{statement}
 use Rattle.network.proofs.Network.step.Tie as tie
