@@ -8,7 +8,8 @@ use Rattle.bits.specs.Members.{members}
 use Rattle.reliability.specs.declared.Link.{Link}
 use Rattle.reliability.specs.declared.Step.{Step}
 use Rattle.reliability.specs.declared.Step.the-variants.{OneNode, Disconnected, Loop, Parallel, End, Series, Split}
-use Rattle.reliability.specs.Networks.{Network as Graph}
+use Rattle.reliability.specs.Networks.{Network as Graph, Valid, linkAt}
+use Rattle.reliability.specs.Rule.{next}
 use Rattle.search.specs.Searches.{pick, nodesIn}
 unfoldable pub use Rattle.search.specs.Searches.{from}
 use Rattle.network.specs.declared.Network.{Network}
@@ -47,6 +48,14 @@ pub record Used (n : Network) (p : ℕ) : Type 0 where
 abbrev pub indexOf : Network → ℕ → ℕ
 indexOf n p = rank p (members (n .alive))
 
+-- the link at a place
+abbrev pub linkOf : Network → ℕ → Link
+linkOf n p = linkAt (networkOf n) (indexOf n p)
+
+-- what holds of a network by value at all times
+pub record Invariant (n : Network) : Type 0 where
+  pub valid : Valid (networkOf n)
+
 -- a network that is being built: its k links stand at the places 0 to k − 1
 unfoldable pub Built : Network → ℕ → Type 0
 Built n k = members (n .alive) ≡ replicate k true ++ replicate (64 - k) false
@@ -62,7 +71,7 @@ ranked n (Series v i j) = Series v (indexOf n i) (indexOf n j)
 ranked n (Split i) = Split (indexOf n i)
 
 -- the places of a step are in use, and its node is one
-unfoldable pub Placed : Network → Step → Type 0
+abbrev pub Placed : Network → Step → Type 0
 Placed n OneNode = Unit {0}
 Placed n Disconnected = Unit {0}
 Placed n (Loop i) = Used n i
@@ -70,3 +79,8 @@ Placed n (Parallel i j) = Used n i × Used n j
 Placed n (End v i) = (v < 32) × Used n i
 Placed n (Series v i j) = (v < 32) × Used n i × Used n j
 Placed n (Split i) = Used n i
+
+-- s is the step that fits, by places in use
+pub record Fitting (n : Network) (s : Step) : Type 0 where
+  pub by-rule : ranked n s ≡ next (networkOf n)
+  pub placed : Placed n s

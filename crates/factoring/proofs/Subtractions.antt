@@ -1,6 +1,6 @@
 -- An importance and a difference from two figures.
 use Prim.Native.Nat.{ℕ, _+_, _≤_, _<_, _^_}
-use mathlib.Core.Path.{_≡_, refl, sym, ap, ap₂, _∙_, subst₂}
+use mathlib.Core.Path.{_≡_, sym, ap, subst₂}
 use mathlib.Core.Bool.{Bool, true, false}
 use native.Mathlib.Omega.{arith}
 use lib.ListN.{length}
@@ -9,7 +9,7 @@ use Rattle.reliability.specs.declared.Figure.{Figure}
 use Rattle.reliability.specs.Networks.{Network as Graph, Valid, linkAt}
 use Rattle.reliability.specs.Exact.{Equal}
 use Rattle.reliability.specs.Rule.{isLoop, deleted, contracted, figure}
-use Rattle.reliability.specs.Comparisons.{soundAt, brokenAt, lessened, importance}
+use Rattle.reliability.specs.Comparisons.{soundAt, brokenAt}
 use Rattle.reliability.proofs.Comparisons.{sound-valid, broken-valid, broken-sound-of-equal}
 use Rattle.reliability.proofs.Unrolled.{figure-steps}
 
@@ -31,6 +31,3 @@ module _ (g : Graph) (k : ℕ) where
           subst₂ (λ (f h : Figure). h .low ≤ f .high) (sym is) (sym ib) (broken-sound-of-equal g valid k place limit equal),
           subst₂ (λ (f h : Figure). f .steps + h .steps < 2 ^ 32) (sym is) (sym ib) (omega arith),
         )
-
-    pub importance-is : lessened s b ≡ importance g k limit
-    importance-is = ap₂ lessened is ib
