@@ -100,16 +100,16 @@ with-requires-3 : tie.Need-with-requires-3 Inv-loop μ-loop
 with-requires-3 c κs = omega (arith, ends (c .before .before .before))
 
 mul-union : tie.Need-mul-union Inv-loop μ-loop
-mul-union c = record { fits = omega (arith, ends (c .before .before .before .before)) }
+mul-union c = record { fits = omega (arith, ends (c .before .before .before .before), place (c .before .before .before .before) .0) }
 
 element-copy-out-union : tie.Need-element-copy-out-union Inv-loop μ-loop
-element-copy-out-union c = omega (arith, ends (c .before .before .before .before))
+element-copy-out-union c = omega (arith, ends (c .before .before .before .before), place (c .before .before .before .before) .0)
 
 mul-union-2 : tie.Need-mul-union-2 Inv-loop μ-loop
-mul-union-2 c = record { fits = omega (arith, ends (c .before .before .before .before .before)) }
+mul-union-2 c = record { fits = omega (arith, ends (c .before .before .before .before .before), place (c .before .before .before .before .before) .0) }
 
 element-copy-out-union-2 : tie.Need-element-copy-out-union-2 Inv-loop μ-loop
-element-copy-out-union-2 c = omega (arith, ends (c .before .before .before .before .before))
+element-copy-out-union-2 c = omega (arith, ends (c .before .before .before .before .before), place (c .before .before .before .before .before) .0)
 
 union-requires : tie.Need-union-requires Inv-loop μ-loop
 union-requires c κs = search needs
