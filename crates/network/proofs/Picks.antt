@@ -188,7 +188,7 @@ module _ (n : Network) (s j : ℕ) (xs : List Link) (u : Used n j) (cleared : me
 
 -- ---- the nodes
 
-pub mem-from : {v : ℕ} (i k : ℕ) → List·Memᴰ v (from i k) → (i ≤ v) × (v < i + k)
+mem-from : {v : ℕ} (i k : ℕ) → List·Memᴰ v (from i k) → (i ≤ v) × (v < i + k)
 unfolding from
 mem-from i (suc k) (List·Memᴰ·head e) = (omega arith, omega arith)
 mem-from i (suc k) (List·Memᴰ·tail m) = let h = mem-from (suc i) k m in (omega arith, omega arith)
@@ -254,9 +254,6 @@ module _ (n : Network) (k : ℕ) (built : Built n k) where
   pub built-links : linksOf n ≡ take k (allRows n)
   unfolding Built
   built-links = ap (λ bs. pick bs (allRows n)) built ∙ pick-first k (64 - k) (allRows n)
-
-  pub built-length : Sized n → length (linksOf n) ≡ k
-  built-length sized = ap length built-links ∙ length-take-le k (allRows n) (omega (arith, built-most, length-all n sized))
 
 -- one link more, at place k
 module _ (n r : Network) (k : ℕ) (built : Built n k) (free : k < 64) (more : members (r .alive) ≡ set (members (n .alive)) k true) where
