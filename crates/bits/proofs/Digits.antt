@@ -6,7 +6,7 @@ use mathlib.Core.List.{List, _∷_}
 use mathlib.Core.Bool.{Bool, true, false}
 use native.Mathlib.Nat.{pow-suc}
 use native.Mathlib.Omega.{arith}
-use lib.ListN.{length, set, getD, replicate}
+use lib.ListN.{length, getD, replicate}
 use Rattle.bits.proofs.Places.{first-set}
 use Rattle.bits.specs.Members.{bitOf, digits, firstOf, howMany}
 

@@ -1,6 +1,6 @@
 -- An importance and a difference from two figures.
-use Prim.Native.Nat.{ℕ, _+_, _≤_, _<_, _^_}
-use mathlib.Core.Path.{_≡_, sym, ap, subst₂}
+use Prim.Native.Nat.{ℕ, _≤_, _<_, _^_}
+use mathlib.Core.Path.{_≡_, sym, ap, subst, subst₂}
 use mathlib.Core.Bool.{Bool, true, false}
 use native.Mathlib.Omega.{arith}
 use lib.ListN.{length}
@@ -8,7 +8,7 @@ use borrow.Author.Tests.{eq-eqb, ne-eqb}
 use Rattle.reliability.specs.declared.Figure.{Figure}
 use Rattle.reliability.specs.Networks.{Network as Graph, Valid, linkAt}
 use Rattle.reliability.specs.Exact.{Equal}
-use Rattle.reliability.specs.Rule.{isLoop, deleted, contracted, figure}
+use Rattle.reliability.specs.Rule.{deleted, contracted, figure}
 use Rattle.reliability.specs.Comparisons.{soundAt, brokenAt}
 use Rattle.reliability.proofs.Comparisons.{sound-valid, broken-valid, broken-sound-of-equal}
 use Rattle.reliability.proofs.Unrolled.{figure-steps}
@@ -24,10 +24,11 @@ module _ (g : Graph) (k : ℕ) where
 
   module _ (valid : Valid g) (equal : Equal g) (place : k < length (g .links)) (limit : ℕ) (small : limit < 2 ^ 31) (s b : Figure) (is : s ≡ figure (soundAt k g) limit) (ib : b ≡ figure (brokenAt k g) limit) where
     -- what is asked where the two are subtracted
-    pub subtracts : (b .low ≤ s .high) × (s .steps + b .steps < 2 ^ 32)
+    pub subtracts : (b .low ≤ s .high) × (s .steps < 2 ^ 31) × (b .steps < 2 ^ 31)
     subtracts =
         let x = figure-steps (soundAt k g) limit (sound-valid g valid k place) in
         let y = figure-steps (brokenAt k g) limit (broken-valid g valid k place) in (
           subst₂ (λ (f h : Figure). h .low ≤ f .high) (sym is) (sym ib) (broken-sound-of-equal g valid k place limit equal),
-          subst₂ (λ (f h : Figure). f .steps + h .steps < 2 ^ 32) (sym is) (sym ib) (omega arith),
+          subst (λ (f : Figure). f .steps < 2 ^ 31) (sym is) (omega arith),
+          subst (λ (f : Figure). f .steps < 2 ^ 31) (sym ib) (omega arith),
         )

@@ -137,7 +137,7 @@ pub fn work(net: Network, limit: u64) -> Figure
 
 // Sound minus broken, the low no lower than 0.
 fn lessened(s: Figure, b: Figure) -> Figure
-    requires { ⌜ (b .low ≤ s .high) × (s .steps + b .steps < 2 ^ 32) ⌝ }
+    requires { ⌜ (b .low ≤ s .high) × (s .steps < 2 ^ 31) × (b .steps < 2 ^ 31) ⌝ }
     ensures { λ r. ⌜ r ≡ lessened s b ⌝ }
 {
     let low = excess(s.low, b.high);

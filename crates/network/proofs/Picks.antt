@@ -8,7 +8,7 @@ use native.Mathlib.Numerals.{add-one}
 use native.Mathlib.Omega.{arith}
 use borrow.Author.Tests.{eq-eqb, ne-eqb}
 use lib.ListN.{length, getD, set, take, replicate, length-append, length-replicate, getD-replicate, List·getD-append}
-use lib.Seq.{set-getD, take-suc-set, length-take-le}
+use lib.Seq.{set-getD, take-suc-set}
 use Rattle.bits.specs.Members.{members}
 use Rattle.bits.proofs.Digits.{length-digits, digits-zero}
 use Rattle.rounding.specs.Rounding.{S}

@@ -7,7 +7,7 @@ use mathlib.Core.Option.{Option, some, none}
 use native.Mathlib.Omega.{arith}
 use Rattle.search.specs.declared.Found.the-variants.{At, Nothing}
 use Rattle.search.specs.declared.Pair.{Pair}
-use Rattle.search.specs.declared.Pair.the-variants.{Both, Neither}
+use Rattle.search.specs.declared.Pair.the-variants.{Both}
 use Rattle.search.specs.Searches.{filter, found, pairIn}
 use Rattle.search.proofs.Marks.{filter-here, filter-past}
 

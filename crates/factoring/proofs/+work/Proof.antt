@@ -1,4 +1,4 @@
-use Prim.Native.Nat.{ℕ, _-_, _≤_, _<_}
+use Prim.Native.Nat.{ℕ, _-_, _<_}
 use mathlib.Core.Path.{_≡_, sym, ap, ap₂, _∙_, subst}
 use native.Mathlib.Omega.{arith}
 use lib.ListN.{length}
@@ -7,8 +7,8 @@ use Rattle.reliability.specs.declared.Link.{Link}
 use Rattle.reliability.specs.declared.Figure.{Figure}
 use Rattle.reliability.specs.declared.Step.{Step}
 use Rattle.reliability.specs.declared.Step.the-variants.{OneNode, Disconnected, Loop, Parallel, End, Series, Split}
-use Rattle.reliability.specs.Rule.{next, leaves, rest, scaled, branches, deleted, contracted, times, figure}
-use Rattle.reliability.specs.Networks.{Network as Graph, value, linkAt}
+use Rattle.reliability.specs.Rule.{next, leaves, deleted, contracted, times, figure}
+use Rattle.reliability.specs.Networks.{Network as Graph, value}
 use Rattle.reliability.proofs.Unrolled.{Below, below-rest, below-scaled, below-sound, below-broken, figure-settled, figure-rest, figure-scaled, figure-limit, figure-branches}
 use Rattle.factoring.proofs.Arms.{link-within, figure-within, steps-within, Within, pair-eq, blended}
 use Rattle.network.specs.declared.Network.{Network}
