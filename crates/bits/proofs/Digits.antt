@@ -6,8 +6,8 @@ use mathlib.Core.List.{List, _∷_}
 use mathlib.Core.Bool.{Bool, true, false}
 use native.Mathlib.Nat.{pow-suc}
 use native.Mathlib.Omega.{arith}
-use lib.ListN.{length, set, getD, replicate}
-use Rattle.bits.proofs.Places.{first-set, count-cleared}
+use lib.ListN.{length, getD, replicate}
+use Rattle.bits.proofs.Places.{first-set}
 use Rattle.bits.specs.Members.{bitOf, digits, firstOf, howMany}
 
 abbrev pub digitOf : Bool → ℕ
@@ -78,6 +78,3 @@ lowest-set k n pos h =
     let some : howMany (digits k n) ≡ 0 → ⊥ = λ none. omega (arith, digits-empty k n h .0 none) in
     let first = first-set (digits k n) (omega arith) in
     (omega (arith, length-digits k n), first .1)
-
-pub lowest-cleared : (k n : ℕ) → 0 < n → n < 2 ^ k → suc (howMany (set (digits k n) (firstOf (digits k n)) false)) ≡ howMany (digits k n)
-lowest-cleared k n pos h = count-cleared (digits k n) (firstOf (digits k n)) (lowest-set k n pos h .1)

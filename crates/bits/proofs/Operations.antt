@@ -3,15 +3,15 @@ use Prim.Native.Nat.{ℕ, zero, suc, _+_, _-_, _*_, _/_, _%_, _^_, _≤_, _<_, m
 use mathlib.Core.Path.{_≡_, refl, sym, ap, ap₂, _∙_}
 use mathlib.Core.List.{List, _∷_, _++_, zipWith}
 use mathlib.Core.Bool.{Bool, true, false, not, _&&_, _||_}
-use native.Mathlib.Nat.{one-mul, pow-suc, sub-zero, suc-sub-suc}
+use native.Mathlib.Nat.{lt-of-le-of-lt, one-mul, pow-suc, sub-zero, suc-sub-suc}
 use native.Mathlib.Omega.{arith}
 use lib.ListN.{set, getD, replicate}
 use lib.Dec.{eqb}
-use lib.Pow.{shr-shr, shl-exact, pow-pos}
+use lib.Pow.{shr-shr, shl-exact, pow-pos, pow-mono}
 use lib.Bits.{bitAnd, bitOr, and-step, or-step, and-self}
 use lib.Count.{ones, ones-step, trailingZeros, under}
-use Rattle.bits.proofs.Digits.{digitOf, lowest-digit, digits-step, digits-zero, count-step}
-use Rattle.bits.specs.Members.{bitOf, digits, firstOf, howMany, both, either, difference}
+use Rattle.bits.proofs.Digits.{digitOf, lowest-digit, digits-step, digits-zero, digits-injective, count-step}
+use Rattle.bits.specs.Members.{bitOf, digits, members, firstOf, howMany, both, either, difference, below}
 
 -- an operation that works digit by digit: f on digits as numbers, g on digits as Bools
 module _ (op : ℕ → ℕ → ℕ → ℕ) (f : ℕ → ℕ → ℕ) (g : Bool → Bool → Bool)
@@ -122,3 +122,24 @@ digits-full zero (suc n) h = absurd (omega arith)
 digits-full (suc k) (suc n) h =
     digits-step k (2 ^ suc n - 1) (2 ^ n - 1) true (omega (arith, pow-suc 2 n, pow-pos n))
     ∙ ap (λ (bs : List Bool). true ∷ bs) (digits-full k n (omega arith) ∙ ap (λ (j : ℕ). replicate n true ++ replicate j false) (sym (suc-sub-suc k n)))
+
+-- to clear a place makes the number no larger
+cleared-within : (k r s i : ℕ) → r < 2 ^ k → s < 2 ^ k → digits k r ≡ set (digits k s) i false → r ≤ s
+unfolding digits
+cleared-within zero r s i hr hs e = omega arith
+cleared-within (suc k) r s zero hr hs e =
+    let bit : bitOf (r % 2) ≡ false = cc in
+    let high : digits k (r / 2) ≡ digits k (s / 2) = cc in
+    omega (arith, lowest-digit r, ap digitOf bit, digits-injective k (r / 2) (s / 2) (omega (arith, pow-suc 2 k)) (omega (arith, pow-suc 2 k)) high)
+cleared-within (suc k) r s (suc i) hr hs e =
+    let bit : bitOf (r % 2) ≡ bitOf (s % 2) = cc in
+    let high : digits k (r / 2) ≡ set (digits k (s / 2)) i false = cc in
+    omega (arith, lowest-digit r, lowest-digit s, ap digitOf bit, cleared-within k (r / 2) (s / 2) i (omega (arith, pow-suc 2 k)) (omega (arith, pow-suc 2 k)) high)
+
+pub cleared-fits : (r s v : ℕ) → r < 2 ^ 64 → s < 2 ^ 32 → members r ≡ set (members s) v false → r < 2 ^ 32
+cleared-fits r s v hr hs e = lt-of-le-of-lt (cleared-within 64 r s v hr (omega arith) e) hs
+
+pub full-fits : (r n : ℕ) → r < 2 ^ 64 → n ≤ 32 → members r ≡ below n → r < 2 ^ 32
+full-fits r n hr h e =
+    let same : r ≡ 2 ^ n - 1 = digits-injective 64 r (2 ^ n - 1) hr (omega (arith, pow-mono h, pow-pos n)) (e ∙ sym (digits-full 64 n (omega arith))) in
+    omega (arith, pow-mono h, pow-pos n)

@@ -1,5 +1,5 @@
 -- Laws of lists of places.
-use Prim.Native.Nat.{ℕ, zero, suc, _≤_, _<_}
+use Prim.Native.Nat.{ℕ, zero, suc, _<_}
 use mathlib.Core.Path.{_≡_, refl, sym, ap}
 use mathlib.Core.List.{List, [], _∷_, zipWith}
 use mathlib.Core.Bool.{Bool, true, false, true≢false}
@@ -13,13 +13,6 @@ first-set [] h = absurd (omega arith)
 first-set (true ∷ bs) h = (omega arith, refl)
 first-set (false ∷ bs) h = (omega (arith, first-set bs h .0), first-set bs h .1)
 
--- and no earlier one is
-pub first-earlier : (bs : List Bool) (i : ℕ) → i < firstOf bs → getD bs i false ≡ false
-first-earlier [] i h = refl
-first-earlier (true ∷ bs) i h = absurd (omega arith)
-first-earlier (false ∷ bs) zero h = refl
-first-earlier (false ∷ bs) (suc i) h = first-earlier bs i (omega arith)
-
 -- to clear a place that is set takes one from the count
 pub count-cleared : (bs : List Bool) (i : ℕ) → getD bs i false ≡ true → suc (howMany (set bs i false)) ≡ howMany bs
 count-cleared [] i h = absurd (true≢false (sym h))
@@ -27,11 +20,6 @@ count-cleared (true ∷ bs) zero h = refl
 count-cleared (false ∷ bs) zero h = absurd (true≢false (sym h))
 count-cleared (true ∷ bs) (suc i) h = ap suc (count-cleared bs i h)
 count-cleared (false ∷ bs) (suc i) h = count-cleared bs i h
-
-pub count-le : (bs : List Bool) → howMany bs ≤ length bs
-count-le [] = omega arith
-count-le (true ∷ bs) = omega (arith, count-le bs)
-count-le (false ∷ bs) = omega (arith, count-le bs)
 
 -- an operation on two sets, at a place
 pub getD-zipWith : (g : Bool → Bool → Bool) → g false false ≡ false → (bs cs : List Bool) → length bs ≡ length cs

@@ -1,54 +1,35 @@
--- Where a step was found on a network by value: what it leaves by the rule, and what is known there.
-use Prim.Native.Nat.{ℕ, _-_, _≤_, _<_}
+-- What is known of links and figures where a step is worked.
+use Prim.Native.Nat.{ℕ, _-_, _≤_}
 use mathlib.Core.Path.{_≡_, sym, ap, ap₂, _∙_, subst}
-use native.Mathlib.Nat.{lt-trans}
-use lib.ListN.{length}
-use Rattle.rounding.specs.Rounding.{S, factor}
-use Rattle.rounding.specs.declared.Direction.{Direction}
+use Rattle.rounding.specs.Rounding.{S}
 use Rattle.rounding.specs.declared.Direction.the-variants.{Down, Up}
 use Rattle.reliability.specs.declared.Link.{Link}
 use Rattle.reliability.specs.declared.Figure.{Figure}
-use Rattle.reliability.specs.declared.Step.{Step}
-use Rattle.reliability.specs.declared.Step.the-variants.{OneNode, Disconnected, Loop, Parallel, End, Series, Split}
-use Rattle.reliability.specs.Networks.{Network as Graph, Valid, value, linkAt}
-use Rattle.reliability.specs.Rule.{next, leaves, settled, rest, scaled, branches, deleted, removed, joined, inParallel, inSeries, contracted, blend, figure}
+use Rattle.reliability.specs.Networks.{Network as Graph}
+use Rattle.reliability.specs.Rule.{blend, figure}
 use Rattle.reliability.proofs.Validity.{proper-at}
-use Rattle.reliability.proofs.Steps.{Fits, fits}
-use Rattle.reliability.proofs.Unrolled.{figure-range}
+use Rattle.reliability.proofs.Unrolled.{figure-range, figure-steps}
 use Rattle.network.specs.declared.Network.{Network}
-use Rattle.network.specs.Places.{networkOf, indexOf, Used, ranked, Placed}
+use Rattle.network.specs.Places.{networkOf, indexOf, linkOf, Used, Invariant}
+use Rattle.network.proofs.Picks.{Sized, index-within}
 
 -- both values of a link, or both figures, are at most S
 abbrev pub Within : ℕ → ℕ → Type 0
 Within low high = (low ≤ S) × (high ≤ S)
 
-pub figure-within : (f : Figure) (g : Graph) (limit : ℕ) → Valid g → f ≡ figure g limit → Within (f .low) (f .high)
-figure-within f g limit valid e =
-    subst (λ (k : Figure). Within (k .low) (k .high)) (sym e) (figure-range Down g limit valid, figure-range Up g limit valid)
-
-module _ (net : Network) (valid : Valid (networkOf net)) (r : Step) (told : ranked net r ≡ next (networkOf net)) (placed : Placed net r) where
-  abbrev g : Graph
-  g = networkOf net
-
-  -- r is the step s
-  module _ (s : Step) (is : r ≡ s) where
-    by-rule : ranked net s ≡ next g
-    by-rule = subst (λ (t : Step). ranked net t ≡ next g) is told
-
-    pub places : Placed net s
-    places = subst (Placed net) is placed
-
-    pub left : leaves g (next g) ≡ leaves g (ranked net s)
-    left = ap (leaves g) (sym by-rule)
-
-    pub fitting : Fits g (ranked net s)
-    fitting = subst (Fits g) (sym by-rule) (fits g valid)
-
-  -- a link of the network, read by its place
-  pub link-within : (e : Link) (k : ℕ) → k < length (g .links) → e ≡ linkAt g k → Within (e .low) (e .high)
-  link-within e k h is =
-      let p = proper-at g valid k h in
+module _ (n : Network) (holds : Invariant n) where
+  pub link-within : Sized n → (e : Link) (i : ℕ) → Used n i → e ≡ linkOf n i → Within (e .low) (e .high)
+  link-within sized e i u is =
+      let p = proper-at (networkOf n) (holds .valid) (indexOf n i) (index-within n sized i u) in
       subst (λ (f : Link). Within (f .low) (f .high)) (sym is) (p .range Down, p .range Up)
+
+  module _ (limit : ℕ) (f : Figure) (is : f ≡ figure (networkOf n) limit) where
+    pub figure-within : Within (f .low) (f .high)
+    figure-within =
+        subst (λ (k : Figure). Within (k .low) (k .high)) (sym is) (figure-range Down (networkOf n) limit (holds .valid), figure-range Up (networkOf n) limit (holds .valid))
+
+    pub steps-within : f .steps ≤ limit
+    steps-within = subst (λ (k : Figure). k .steps ≤ limit) (sym is) (figure-steps (networkOf n) limit (holds .valid))
 
 pub pair-eq : {A : Type 0} {a b c d : A} → a ≡ c → b ≡ d → _≡_ {A = A × A} (a, b) (c, d)
 pair-eq p q = λ i. (p i, q i)

@@ -10,11 +10,10 @@ ghost use mathlib.Core.Bool.{true, _&&_};
 ghost use Prim.Native.Nat.{_+_, _-_, _^_, _≤_, _<_};
 ghost use lib.IntN.{pos, _-ℤ_};
 ghost use Rattle.rounding.specs.Rounding.{S, factor};
-ghost use Rattle.reliability.specs.Networks.{Valid, value};
-ghost use Rattle.reliability.specs.Exact.{Equal};
+ghost use Rattle.reliability.specs.Networks.{value};
 ghost use Rattle.reliability.specs.Rule.{bounded, times, blend, unfinished, figure};
 ghost use Rattle.reliability.specs.Comparisons.{lessened, minus, importance, difference};
-ghost use Rattle.network.specs.Places.{networkOf, indexOf, Used};
+ghost use Rattle.network.specs.Places.{networkOf, indexOf, Used, Invariant};
 ghost use Rattle.factoring.specs.Sides.{sides};
 
 fn both(a: bool, b: bool) -> bool
@@ -105,7 +104,7 @@ fn unfinished() -> Figure
 
 // The figure of a network under a limit: what each step leaves is worked by the same rule, with a link less.
 pub fn work(net: Network, limit: u64) -> Figure
-    requires { ⌜ Valid (networkOf net) × (limit < 2 ^ 32) ⌝ }
+    requires { ⌜ Invariant net × (limit < 2 ^ 32) ⌝ }
     ensures { λ r. ⌜ r ≡ figure (networkOf net) limit ⌝ }
 {
     match net.step() {
@@ -137,7 +136,7 @@ pub fn work(net: Network, limit: u64) -> Figure
 
 // Sound minus broken, the low no lower than 0.
 fn lessened(s: Figure, b: Figure) -> Figure
-    requires { ⌜ (b .low ≤ s .high) × (s .steps + b .steps < 2 ^ 32) ⌝ }
+    requires { ⌜ (b .low ≤ s .high) × (s .steps < 2 ^ 31) × (b .steps < 2 ^ 31) ⌝ }
     ensures { λ r. ⌜ r ≡ lessened s b ⌝ }
 {
     let low = excess(s.low, b.high);
@@ -154,7 +153,7 @@ fn lessened(s: Figure, b: Figure) -> Figure
 
 // The importance of the link at place i. A loop's sound and broken networks are both the network without it.
 pub fn importance(net: Network, i: usize, limit: u64) -> Figure
-    requires { ⌜ Valid (networkOf net) × Equal (networkOf net) × Used net i × (limit < 2 ^ 31) ⌝ }
+    requires { ⌜ Invariant net × Used net i × (limit < 2 ^ 31) ⌝ }
     ensures { λ r. ⌜ r ≡ importance (networkOf net) (indexOf net i) limit ⌝ }
 {
     let e = net.link(i);
@@ -185,7 +184,7 @@ fn minus(f: Figure, g: Figure) -> Difference
 
 // The difference of two networks: the first minus the second.
 pub fn difference(first: Network, second: Network, limit: u64) -> Difference
-    requires { ⌜ Valid (networkOf first) × Valid (networkOf second) × (limit < 2 ^ 31) ⌝ }
+    requires { ⌜ Invariant first × Invariant second × (limit < 2 ^ 31) ⌝ }
     ensures { λ r. ⌜ r ≡ difference (networkOf first) (networkOf second) limit ⌝ }
 {
     let f = work(first, limit);

@@ -15,13 +15,16 @@ use Rattle.reliability.specs.Networks.{Valid, ends, connected}
 use Rattle.reliability.specs.Rule.{isLoop, firstAt, firstPair, lowest, endOf, seriesOf, chosen, _otherwise_, next}
 use Rattle.reliability.proofs.Steps.{Fits, fits}
 use Rattle.network.specs.declared.Network.{Network}
-use Rattle.network.specs.declared.search.Found.the-variants.{At}
-use Rattle.network.specs.declared.search.Pair.the-variants.{Both, Neither}
-use Rattle.network.specs.Places.{pick, rank, placesIn, networkOf, linksOf, nodesOf, indexOf, Used, ranked, Placed, joints, touching, Incidence, found, loops, beside, pairIn, withLinks}
-use Rattle.network.proofs.Sets.{has, has-place, has-below, mem-has, at-node}
+use Rattle.search.specs.declared.Found.the-variants.{At}
+use Rattle.search.specs.declared.Pair.the-variants.{Both, Neither}
+use Rattle.search.specs.Searches.{pick, placesIn, endsByPlace, touching, Incidence, found, loops, beside, pairIn, withLinks}
+use Rattle.network.specs.Places.{rank, networkOf, linksOf, nodesOf, indexOf, Used, ranked, Fitting}
+use Rattle.search.proofs.Sets.{has, has-place, has-below, mem-has, at-node}
 use Rattle.network.proofs.Picks.{Sized, allRows}
-use Rattle.network.proofs.Marks.{Lowest, lowest-in, lowest-first, lowest-rest, rest-count, rest-within, links-joints}
-use Rattle.network.proofs.Rules.{first, length-places, paired, hit, pair-members, next-by, loop-rule, pair-rule, end-rule, series-rule}
+use Rattle.search.proofs.Marks.{Lowest, length-places, lowest-in, lowest-first, lowest-rest, rest-count, rest-within}
+use Rattle.search.proofs.Answers.{first, hit, pair-members}
+use Rattle.network.proofs.Ends.{links-ends}
+use Rattle.network.proofs.Rules.{paired, next-by, loop-rule, pair-rule, end-rule, series-rule}
 
 pick-count : {A : Type 0} (us : List Bool) (xs : List A) → length (pick us xs) ≤ howMany us
 unfolding pick
@@ -37,10 +40,6 @@ rank-lowest [] = refl
 rank-lowest (true ∷ us) = refl
 rank-lowest (false ∷ us) = rank-lowest us
 
--- s is the step that fits, by places in use
-abbrev pub Right : Network → Step → Type 0
-Right n s = (ranked n s ≡ next (networkOf n)) × Placed n s
-
 place-used : (n : Network) (k : ℕ) → has (n .alive) k ≡ true → Used n k
 place-used n k e = record { below = has-place (n .alive) k e; used = e }
 
@@ -49,7 +48,7 @@ pub record Whole (n : Network) : Type 0 where
   pub sized : Sized n
   pub no-loop : loops (n .alive) (n .a) (n .b) ≡ []
   pub more : leb (howMany (members (n .nodes))) 1 ≡ false
-  pub whole : connected (nodesOf n) (pick (members (n .alive)) (joints (n .a) (n .b))) ≡ true
+  pub whole : connected (nodesOf n) (pick (members (n .alive)) (endsByPlace (n .a) (n .b))) ≡ true
 
 -- and no two of them are alike
 pub record Unpaired (n : Network) (at : List ℕ) : Type 0 where
@@ -58,31 +57,32 @@ pub record Unpaired (n : Network) (at : List ℕ) : Type 0 where
   pub incidence : Incidence at (n .alive) (n .a) (n .b)
 
 module _ (n : Network) (sized : Sized n) where
-  pub loop-right : (i : ℕ) → found (loops (n .alive) (n .a) (n .b)) ≡ At i → Right n (Loop i)
-  unfolding ranked Placed
+  pub loop-right : (i : ℕ) → found (loops (n .alive) (n .a) (n .b)) ≡ At i → Fitting n (Loop i)
+  unfolding ranked
   loop-right i e =
-      let h = hit (λ k. eqb (getD (n .a) k 0) (getD (n .b) k 0)) (placesIn (n .alive)) i e in (
-        sym (next-by (networkOf n) (some (indexOf n i)) (loop-rule n sized ∙ ap (Option·map (indexOf n)) (h .first)) _ refl _ refl _ refl _ refl _ refl),
-        place-used n i (mem-has (n .alive) i (h .member)),
-      )
+      let h = hit (λ k. eqb (getD (n .a) k 0) (getD (n .b) k 0)) (placesIn (n .alive)) i e in
+      record {
+        by-rule = sym (next-by (networkOf n) (some (indexOf n i)) (loop-rule n sized ∙ ap (Option·map (indexOf n)) (h .first)) _ refl _ refl _ refl _ refl _ refl);
+        placed = place-used n i (mem-has (n .alive) i (h .member));
+      }
 
   few : (b : Bool) → leb (howMany (members (n .nodes))) 1 ≡ b → leb (length (nodesOf n)) 1 ≡ b
   few b e = ap (λ (l : ℕ). leb l 1) (length-places (n .nodes)) ∙ e
 
-  joined : (b : Bool) → connected (nodesOf n) (pick (members (n .alive)) (joints (n .a) (n .b))) ≡ b → connected (nodesOf n) (map ends (linksOf n)) ≡ b
-  joined b e = ap (connected (nodesOf n)) (links-joints n sized) ∙ e
+  joined : (b : Bool) → connected (nodesOf n) (pick (members (n .alive)) (endsByPlace (n .a) (n .b))) ≡ b → connected (nodesOf n) (map ends (linksOf n)) ≡ b
+  joined b e = ap (connected (nodesOf n)) (links-ends n sized) ∙ e
 
   module _ (no-loop : loops (n .alive) (n .a) (n .b) ≡ []) where
     no-first : firstAt isLoop (linksOf n) ≡ none
     no-first = loop-rule n sized ∙ ap (λ (l : List ℕ). Option·map (indexOf n) (first l)) no-loop
 
-    pub one-right : leb (howMany (members (n .nodes))) 1 ≡ true → Right n OneNode
-    unfolding ranked Placed
-    one-right e = (sym (next-by (networkOf n) none no-first true (few true e) _ refl _ refl _ refl _ refl), tt)
+    pub one-right : leb (howMany (members (n .nodes))) 1 ≡ true → Fitting n OneNode
+    unfolding ranked
+    one-right e = record { by-rule = sym (next-by (networkOf n) none no-first true (few true e) _ refl _ refl _ refl _ refl); placed = tt }
 
-    pub apart-right : leb (howMany (members (n .nodes))) 1 ≡ false → connected (nodesOf n) (pick (members (n .alive)) (joints (n .a) (n .b))) ≡ false → Right n Disconnected
-    unfolding ranked Placed
-    apart-right more e = (sym (next-by (networkOf n) none no-first false (few false more) false (joined false e) _ refl _ refl _ refl), tt)
+    pub apart-right : leb (howMany (members (n .nodes))) 1 ≡ false → connected (nodesOf n) (pick (members (n .alive)) (endsByPlace (n .a) (n .b))) ≡ false → Fitting n Disconnected
+    unfolding ranked
+    apart-right more e = record { by-rule = sym (next-by (networkOf n) none no-first false (few false more) false (joined false e) _ refl _ refl _ refl); placed = tt }
 
 module _ (n : Network) (w : Whole n) where
   by-links : (pair : Option (ℕ × ℕ)) → firstPair (linksOf n) ≡ pair → (end : Option Step) → lowest endOf (linksOf n) (nodesOf n) ≡ end
@@ -94,13 +94,14 @@ module _ (n : Network) (w : Whole n) where
   pairs : firstPair (linksOf n) ≡ paired (members (n .alive)) (pairIn (beside (n .a) (n .b)) (placesIn (n .alive)))
   pairs = pair-rule n (w .sized) (w .no-loop)
 
-  pub pair-right : (i j : ℕ) → pairIn (beside (n .a) (n .b)) (placesIn (n .alive)) ≡ Both i j → Right n (Parallel i j)
-  unfolding ranked Placed
+  pub pair-right : (i j : ℕ) → pairIn (beside (n .a) (n .b)) (placesIn (n .alive)) ≡ Both i j → Fitting n (Parallel i j)
+  unfolding ranked
   pair-right i j e =
-      let m = pair-members (beside (n .a) (n .b)) (placesIn (n .alive)) i j e in (
-        sym (by-links (some (indexOf n i, indexOf n j)) (pairs ∙ ap (paired (members (n .alive))) e) _ refl _ refl),
-        (place-used n i (mem-has (n .alive) i (m .0)), place-used n j (mem-has (n .alive) j (m .1))),
-      )
+      let m = pair-members (beside (n .a) (n .b)) (placesIn (n .alive)) i j e in
+      record {
+        by-rule = sym (by-links (some (indexOf n i, indexOf n j)) (pairs ∙ ap (paired (members (n .alive))) e) _ refl _ refl);
+        placed = (place-used n i (mem-has (n .alive) i (m .0)), place-used n j (mem-has (n .alive) j (m .1)));
+      }
 
 module _ (n : Network) (at : List ℕ) (u : Unpaired n at) where
   by-nodes : (end : Option Step) → lowest endOf (linksOf n) (nodesOf n) ≡ end → (series : Option Step) → lowest seriesOf (linksOf n) (nodesOf n) ≡ series
@@ -128,36 +129,40 @@ module _ (n : Network) (at : List ℕ) (u : Unpaired n at) where
       let h = hit (λ w. eqb (howMany (members (getD at w 0))) d) (nodesOf n) v e in
       (has-below (n .nodes) 32 v (u .whole .sized .nodes) (mem-has (n .nodes) v (h .member)), h .first, eqb-true (howMany (members (getD at v 0))) d (h .test))
 
-  pub end-right : (v i : ℕ) → found (withLinks 1 at (n .nodes)) ≡ At v → i ≡ firstOf (members (getD at v 0)) → Right n (End v i)
-  unfolding ranked Placed
+  pub end-right : (v i : ℕ) → found (withLinks 1 at (n .nodes)) ≡ At v → i ≡ firstOf (members (getD at v 0)) → Fitting n (End v i)
+  unfolding ranked
   end-right v i e f =
       let (below, lowest, one) = node 1 v e in
       let s = getD at v 0 in
       let l : Lowest s i = record { some = omega arith; first = f } in
       let listed = ap (λ (ks : List ℕ). some (End v (getD (map (indexOf n) ks) 0 0))) (lowest-first s i l) in
-      (sym (by-nodes (some (End v (indexOf n i))) (end-rule n (u .whole .sized) at (u .incidence) ∙ ap (Option·map endAt) lowest ∙ listed) _ refl), (below, at-used v i below (lowest-in s i l)))
+      record {
+        by-rule = sym (by-nodes (some (End v (indexOf n i))) (end-rule n (u .whole .sized) at (u .incidence) ∙ ap (Option·map endAt) lowest ∙ listed) _ refl);
+        placed = (below, at-used v i below (lowest-in s i l));
+      }
 
   module _ (no-end : withLinks 1 at (n .nodes) ≡ []) where
     by-series : (series : Option Step) → lowest seriesOf (linksOf n) (nodesOf n) ≡ series → next (networkOf n) ≡ (series otherwise Split (chosen (networkOf n)))
     by-series = by-nodes none (end-rule n (u .whole .sized) at (u .incidence) ∙ ap (λ (l : List ℕ). Option·map endAt (first l)) no-end)
 
     pub series-right : (v i r j : ℕ) → found (withLinks 2 at (n .nodes)) ≡ At v → i ≡ firstOf (members (getD at v 0))
-        → members r ≡ set (members (getD at v 0)) (firstOf (members (getD at v 0))) false → j ≡ firstOf (members r) → Right n (Series v i j)
-    unfolding ranked Placed
+        → members r ≡ set (members (getD at v 0)) (firstOf (members (getD at v 0))) false → j ≡ firstOf (members r) → Fitting n (Series v i j)
+    unfolding ranked
     series-right v i r j e f rest g =
         let (below, lowest, two) = node 2 v e in
         let s = getD at v 0 in
         let l : Lowest s i = record { some = omega arith; first = f } in
         let m : Lowest r j = record { some = omega (arith, rest-count s i l r rest); first = g } in
-        let listed = ap (λ (ks : List ℕ). some (Series v (getD (map (indexOf n) ks) 0 0) (getD (map (indexOf n) ks) 1 0))) (lowest-rest s i l r rest ∙ ap (λ (ks : List ℕ). i ∷ ks) (lowest-first r j m)) in (
-          sym (by-series (some (Series v (indexOf n i) (indexOf n j))) (series-rule n (u .whole .sized) at (u .incidence) ∙ ap (Option·map seriesAt) lowest ∙ listed)),
-          (below, at-used v i below (lowest-in s i l), at-used v j below (rest-within s i l r rest s (λ k e. e) j (lowest-in r j m))),
-        )
+        let listed = ap (λ (ks : List ℕ). some (Series v (getD (map (indexOf n) ks) 0 0) (getD (map (indexOf n) ks) 1 0))) (lowest-rest s i l r rest ∙ ap (λ (ks : List ℕ). i ∷ ks) (lowest-first r j m)) in
+        record {
+          by-rule = sym (by-series (some (Series v (indexOf n i) (indexOf n j))) (series-rule n (u .whole .sized) at (u .incidence) ∙ ap (Option·map seriesAt) lowest ∙ listed));
+          placed = (below, at-used v i below (lowest-in s i l), at-used v j below (rest-within s i l r rest s (λ k e. e) j (lowest-in r j m)));
+        }
 
-    pub split-right : Valid (networkOf n) → withLinks 2 at (n .nodes) ≡ [] → (k : ℕ) → k ≡ firstOf (members (n .alive)) → Right n (Split k)
-    unfolding ranked Placed
+    pub split-right : Valid (networkOf n) → withLinks 2 at (n .nodes) ≡ [] → (k : ℕ) → k ≡ firstOf (members (n .alive)) → Fitting n (Split k)
+    unfolding ranked
     split-right valid no-series k f =
         let e : next (networkOf n) ≡ Split 0 = by-series none (series-rule n (u .whole .sized) at (u .incidence) ∙ ap (λ (l : List ℕ). Option·map seriesAt (first l)) no-series) in
         let place = subst (Fits (networkOf n)) e (fits (networkOf n) valid) .place in
         let l : Lowest (n .alive) k = record { some = omega (arith, pick-count (members (n .alive)) (allRows n)); first = f } in
-        (ap Split (ap (indexOf n) f ∙ rank-lowest (members (n .alive))) ∙ sym e, place-used n k (lowest-in (n .alive) k l))
+        record { by-rule = ap Split (ap (indexOf n) f ∙ rank-lowest (members (n .alive))) ∙ sym e; placed = place-used n k (lowest-in (n .alive) k l) }

@@ -1,26 +1,26 @@
 -- The links and nodes at the places in use, as the definitions have them.
-use Prim.Native.Nat.{ℕ, zero, suc, _+_, _-_, _/_, _%_, _^_, _≤_, _<_, suc-le-suc, zero-le}
+use Prim.Native.Nat.{ℕ, zero, suc, _+_, _-_, _^_, _≤_, _<_, suc-le-suc, zero-le}
 use mathlib.Core.Path.{_≡_, refl, sym, ap, ap₂, subst, _∙_}
 use mathlib.Core.List.{List, [], _∷_, _++_, map, List·Memᴰ, List·Memᴰ·head, List·Memᴰ·tail}
 use mathlib.Core.Bool.{Bool, true, false, true≢false}
-use native.Mathlib.Nat.{lt-of-le-of-lt, not-suc-le-zero, le-of-suc-le-suc, pow-suc}
+use native.Mathlib.Nat.{not-suc-le-zero, le-of-suc-le-suc}
 use native.Mathlib.Numerals.{add-one}
 use native.Mathlib.Omega.{arith}
 use borrow.Author.Tests.{eq-eqb, ne-eqb}
 use lib.ListN.{length, getD, set, take, replicate, length-append, length-replicate, getD-replicate, List·getD-append}
-use lib.Seq.{set-getD, take-suc-set, length-take-le}
-use lib.Pow.{pow-pos, pow-mono}
-use Rattle.bits.specs.Members.{digits, members, bitOf, below}
-use Rattle.bits.proofs.Digits.{length-digits, digits-zero, digits-injective, lowest-digit, digitOf}
-use Rattle.bits.proofs.Operations.{digits-full}
+use lib.Seq.{set-getD, take-suc-set}
+use Rattle.bits.specs.Members.{members}
+use Rattle.bits.proofs.Digits.{length-digits, digits-zero}
 use Rattle.rounding.specs.Rounding.{S}
 use Rattle.rounding.specs.declared.Direction.{Direction}
 use Rattle.reliability.specs.declared.Link.{Link}
-use Rattle.reliability.specs.Networks.{Proper, Valid, linkAt, value}
+use Rattle.reliability.specs.Networks.{Ascending, Proper, Valid, linkAt, value}
 use Rattle.reliability.specs.Rule.{deleteAt, without}
 use Rattle.reliability.proofs.Validity.{proper-at}
 use Rattle.network.specs.declared.Network.{Network}
-use Rattle.network.specs.Places.{pick, rank, from, nodesIn, rows, linksOf, nodesOf, networkOf, Used, indexOf, Built}
+use Rattle.search.specs.Searches.{pick, from, nodesIn}
+use Rattle.search.proofs.Sets.{from-mem}
+use Rattle.network.specs.Places.{rank, rows, linksOf, nodesOf, networkOf, Used, indexOf, Built}
 
 -- ---- what stands at the places that are set
 
@@ -58,13 +58,6 @@ module _ {A : Type 0} where
   rank-within zero (b ∷ bs) (x ∷ xs) h k = rw h (suc-le-suc zero-le)
   rank-within (suc p) (true ∷ bs) (x ∷ xs) h k = suc-le-suc (rank-within p bs xs h (le-of-suc-le-suc k))
   rank-within (suc p) (false ∷ bs) (x ∷ xs) h k = rank-within p bs xs h (le-of-suc-le-suc k)
-
-  pub mem-pick : {x : A} (bs : List Bool) (xs : List A) → List·Memᴰ x (pick bs xs) → List·Memᴰ x xs
-  unfolding pick
-  mem-pick (b ∷ bs) [] m = m
-  mem-pick (true ∷ bs) (y ∷ xs) (List·Memᴰ·head e) = List·Memᴰ·head e
-  mem-pick (true ∷ bs) (y ∷ xs) (List·Memᴰ·tail m) = List·Memᴰ·tail (mem-pick bs xs m)
-  mem-pick (false ∷ bs) (y ∷ xs) m = List·Memᴰ·tail (mem-pick bs xs m)
 
   -- the first n places
   pub pick-first : (n k : ℕ) (xs : List A) → pick (replicate n true ++ replicate k false) xs ≡ take n xs
@@ -195,13 +188,10 @@ module _ (n : Network) (s j : ℕ) (xs : List Link) (u : Used n j) (cleared : me
 
 -- ---- the nodes
 
-pub mem-from : {v : ℕ} (i k : ℕ) → List·Memᴰ v (from i k) → (i ≤ v) × (v < i + k)
+mem-from : {v : ℕ} (i k : ℕ) → List·Memᴰ v (from i k) → (i ≤ v) × (v < i + k)
 unfolding from
 mem-from i (suc k) (List·Memᴰ·head e) = (omega arith, omega arith)
 mem-from i (suc k) (List·Memᴰ·tail m) = let h = mem-from (suc i) k m in (omega arith, omega arith)
-
-pub node-place : {v : ℕ} (s : ℕ) → List·Memᴰ v (nodesIn s) → v < 64
-node-place s m = mem-from 0 64 (mem-pick (members s) (from 0 64) m) .1
 
 without-absent : (v : ℕ) (l : List ℕ) → ((u : ℕ) → List·Memᴰ u l → u ≡ v → ⊥) → without v l ≡ l
 unfolding without
@@ -209,7 +199,7 @@ without-absent v [] h = refl
 without-absent v (u ∷ l) h = rw (ne-eqb u v (h u (List·Memᴰ·head refl)), without) (ap (λ r. u ∷ r) (without-absent v l (λ w m. h w (List·Memᴰ·tail m))))
 
 pick-later : (bs : List Bool) (i k v : ℕ) → v < i → pick bs (from i k) ≡ without v (pick bs (from i k))
-pick-later bs i k v h = sym (without-absent v (pick bs (from i k)) (λ u m e. omega (arith, mem-from i k (mem-pick bs (from i k) m))))
+pick-later bs i k v h = sym (without-absent v (pick bs (from i k)) (λ u m e. omega (arith, from-mem bs i k m .2)))
 
 -- to clear the place of a node removes it
 pick-without : (bs : List Bool) (i k p v : ℕ) → v ≡ i + p → pick (set bs p false) (from i k) ≡ without v (pick bs (from i k))
@@ -225,32 +215,17 @@ pick-without (false ∷ bs) i (suc k) (suc p) v e = pick-without bs (suc i) k p 
 pub nodes-cleared : (r s v : ℕ) → members r ≡ set (members s) v false → nodesIn r ≡ without v (nodesIn s)
 nodes-cleared r s v e = ap (λ bs. pick bs (from 0 64)) e ∙ pick-without (members s) 0 64 v v (omega arith)
 
--- to clear a place makes the number no larger
-cleared-within : (k r s i : ℕ) → r < 2 ^ k → s < 2 ^ k → digits k r ≡ set (digits k s) i false → r ≤ s
-unfolding digits
-cleared-within zero r s i hr hs e = omega arith
-cleared-within (suc k) r s zero hr hs e =
-    let bit : bitOf (r % 2) ≡ false = cc in
-    let high : digits k (r / 2) ≡ digits k (s / 2) = cc in
-    omega (arith, lowest-digit r, ap digitOf bit, digits-injective k (r / 2) (s / 2) (omega (arith, pow-suc 2 k)) (omega (arith, pow-suc 2 k)) high)
-cleared-within (suc k) r s (suc i) hr hs e =
-    let bit : bitOf (r % 2) ≡ bitOf (s % 2) = cc in
-    let high : digits k (r / 2) ≡ set (digits k (s / 2)) i false = cc in
-    omega (arith, lowest-digit r, lowest-digit s, ap digitOf bit, cleared-within k (r / 2) (s / 2) i (omega (arith, pow-suc 2 k)) (omega (arith, pow-suc 2 k)) high)
-
-pub cleared-fits : (r s v : ℕ) → r < 2 ^ 64 → s < 2 ^ 32 → members r ≡ set (members s) v false → r < 2 ^ 32
-cleared-fits r s v hr hs e = lt-of-le-of-lt (cleared-within 64 r s v hr (omega arith) e) hs
-
-pub full-fits : (r n : ℕ) → r < 2 ^ 64 → n ≤ 32 → members r ≡ below n → r < 2 ^ 32
-full-fits r n hr h e =
-    let same : r ≡ 2 ^ n - 1 = digits-injective 64 r (2 ^ n - 1) hr (omega (arith, pow-mono h, pow-pos n)) (e ∙ sym (digits-full 64 n (omega arith))) in
-    omega (arith, pow-mono h, pow-pos n)
-
 -- ---- a network that is being built
 
 below-more : (k m : ℕ) → set (replicate k true ++ replicate (suc m) false) k true ≡ replicate (suc k) true ++ replicate m false
 below-more zero m = refl
 below-more (suc k) m = ap (λ bs. true ∷ bs) (below-more k m)
+
+-- the numbers from i on are in ascending order
+pub ascending-from : (i k : ℕ) → Ascending (from i k)
+unfolding from Ascending
+ascending-from i zero = tt
+ascending-from i (suc k) = (λ u m. omega (arith, mem-from (suc i) k m .0), ascending-from (suc i) k)
 
 pub take-from : (i n k : ℕ) → n ≤ k → take n (from i k) ≡ from i n
 unfolding from
@@ -279,9 +254,6 @@ module _ (n : Network) (k : ℕ) (built : Built n k) where
   pub built-links : linksOf n ≡ take k (allRows n)
   unfolding Built
   built-links = ap (λ bs. pick bs (allRows n)) built ∙ pick-first k (64 - k) (allRows n)
-
-  pub built-length : Sized n → length (linksOf n) ≡ k
-  built-length sized = ap length built-links ∙ length-take-le k (allRows n) (omega (arith, built-most, length-all n sized))
 
 -- one link more, at place k
 module _ (n r : Network) (k : ℕ) (built : Built n k) (free : k < 64) (more : members (r .alive) ≡ set (members (n .alive)) k true) where

@@ -18,19 +18,16 @@ use Rattle.reliability.specs.Rule
 use Rattle.reliability.specs.Rule.{isLoop, touches, alike, firstAt, places, firstPair, sucs, endOf, seriesOf, lowest, when, _otherwise_, chosen}
 use Rattle.reliability.proofs.Searches.{nth}
 use Rattle.network.specs.declared.Network.{Network}
-use Rattle.network.specs.declared.search.Found.the-variants.{At, Nothing}
-use Rattle.network.specs.declared.search.Pair.{Pair}
-use Rattle.network.specs.declared.search.Pair.the-variants.{Both, Neither}
-use Rattle.network.specs.Places.{pick, rank, placesIn, linksOf, nodesOf, indexOf, touching, Incidence, filter, found, loops, beside, pairIn, withLinks}
-use Rattle.network.proofs.Sets.{has-below, mem-has, at-node}
+use Rattle.search.specs.declared.Pair.{Pair}
+use Rattle.search.specs.declared.Pair.the-variants.{Both, Neither}
+use Rattle.search.specs.Searches.{pick, placesIn, touching, Incidence, filter, loops, beside, pairIn, withLinks}
+use Rattle.network.specs.Places.{rank, linksOf, nodesOf, indexOf}
+use Rattle.search.proofs.Sets.{has-below, mem-has, at-node}
 use Rattle.network.proofs.Picks.{rows-at, Sized, allRows, rowAt, all-even, length-all}
-use Rattle.network.proofs.Marks.{indices, places-listed, filter-suc, filter-here, filter-past, filter-indices, same-test}
+use Rattle.search.proofs.Marks.{indices, places-listed, length-places, filter-suc, filter-indices, same-test}
+use Rattle.search.proofs.Answers.{first, filter-none}
 
 -- ---- lists of links
-
-abbrev pub first : List ℕ → Option ℕ
-first [] = none
-first (k ∷ ks) = some k
 
 first-map : (f : ℕ → ℕ) (ks : List ℕ) → first (map f ks) ≡ Option·map f (first ks)
 first-map f [] = refl
@@ -142,15 +139,6 @@ alike-ends x y a b n =
     rw (turned x a, turned y b, turned x b, turned y a)
     (crossed (eqb a x) (eqb b x) (eqb a y) (eqb b y) (λ e f. n (sym (eqb-true a x e) ∙ eqb-true a y f)) (λ e f. n (sym (eqb-true b x e) ∙ eqb-true b y f)))
 
-filter-none : (p : ℕ → Bool) (ks : List ℕ) → filter p ks ≡ [] → (k : ℕ) → List·Memᴰ k ks → p k ≡ false
-unfolding filter
-filter-none p (x ∷ ks) e k m = go (p x) refl (λ h l. filter-none p ks h k l) m
-  where
-    go : (b : Bool) → p x ≡ b → (filter p ks ≡ [] → List·Memᴰ k ks → p k ≡ false) → List·Memᴰ k (x ∷ ks) → p k ≡ false
-    go true t h m = let z : _≡_ {A = ℕ} 0 1 = cc (sym (filter-here p x ks t) ∙ e) in absurd (omega arith)
-    go false t h (List·Memᴰ·head q) = ap p q ∙ t
-    go false t h (List·Memᴰ·tail m) = h (sym (filter-past p x ks t) ∙ e) m
-
 -- ---- nodes with one link, and with two
 
 end-list : (v : ℕ) (is : List ℕ) → endOf v is ≡ when (eqb (length is) 1) (End v (getD is 0 0))
@@ -176,53 +164,6 @@ lowest-where rule es p g (v ∷ vs) h =
         → elim (when b (g v)) as (λ m. Option Step) [ some s ↦ some s | none ↦ lowest rule es vs ] ≡ Option·map g (first (elim b as (λ c. List ℕ) [ true ↦ v ∷ filter p vs | false ↦ filter p vs ]))
     go true r = refl
     go false r = r
-
-length-listed : (bs : List Bool) → length (indices bs) ≡ howMany bs
-unfolding indices
-length-listed [] = refl
-length-listed (true ∷ bs) = ap suc (length-map (indices bs) suc ∙ length-listed bs)
-length-listed (false ∷ bs) = length-map (indices bs) suc ∙ length-listed bs
-
-pub length-places : (s : ℕ) → length (placesIn s) ≡ howMany (members s)
-length-places s = ap length (places-listed s) ∙ length-listed (members s)
-
--- ---- what is found
-
--- k is the first of ks at which p holds
-pub record Hit (p : ℕ → Bool) (ks : List ℕ) (k : ℕ) : Type 0 where
-  pub first : first (filter p ks) ≡ some k
-  pub member : List·Memᴰ k ks
-  pub test : p k ≡ true
-
-pub hit : (p : ℕ → Bool) (ks : List ℕ) (k : ℕ) → found (filter p ks) ≡ At k → Hit p ks k
-unfolding filter
-hit p [] k e = let z : _≡_ {A = ℕ} 0 1 = cc in absurd (omega arith)
-hit p (x ∷ ks) k e = go (p x) refl (hit p ks k)
-  where
-    go : (b : Bool) → p x ≡ b → (found (filter p ks) ≡ At k → Hit p ks k) → Hit p (x ∷ ks) k
-    go true t h =
-        let same : x ≡ k = cc (sym (ap found (filter-here p x ks t)) ∙ e) in
-        record { first = ap first (filter-here p x ks t) ∙ ap some same; member = List·Memᴰ·head (sym same); test = ap p (sym same) ∙ t }
-    go false t h =
-        let r = h (sym (ap found (filter-past p x ks t)) ∙ e) in
-        record { first = ap first (filter-past p x ks t) ∙ r .first; member = List·Memᴰ·tail (r .member); test = r .test }
-
-pub missed : (ks : List ℕ) → found ks ≡ Nothing → ks ≡ []
-missed [] e = refl
-missed (k ∷ ks) e = let z : _≡_ {A = ℕ} 0 1 = cc in absurd (omega arith)
-
-pub pair-members : (t : ℕ → ℕ → Bool) (ks : List ℕ) (i j : ℕ) → pairIn t ks ≡ Both i j → List·Memᴰ i ks × List·Memᴰ j ks
-unfolding pairIn
-pair-members t [] i j e = let z : _≡_ {A = ℕ} 0 1 = cc in absurd (omega arith)
-pair-members t (k ∷ ks) i j e = go (filter (t k) ks) refl (pair-members t ks i j) e
-  where
-    go : (l : List ℕ) → filter (t k) ks ≡ l → (pairIn t ks ≡ Both i j → List·Memᴰ i ks × List·Memᴰ j ks)
-        → elim l as (λ m. Pair) [ [] ↦ pairIn t ks | j ∷ js ↦ Both k j ] ≡ Both i j → List·Memᴰ i (k ∷ ks) × List·Memᴰ j (k ∷ ks)
-    go [] f h e = let r = h e in (List·Memᴰ·tail (r .0), List·Memᴰ·tail (r .1))
-    go (x ∷ l) f h e =
-        let one : i ≡ k = cc in
-        let two : x ≡ j = cc in
-        (List·Memᴰ·head one, List·Memᴰ·tail (hit (t k) ks j (ap found f ∙ ap At two) .member))
 
 -- the step that fits, by the answer of each test in turn
 pub next-by : (g : Graph) → (loop : Option ℕ) → firstAt isLoop (g .links) ≡ loop

@@ -4,14 +4,13 @@ use reliability::Step;
 use rounding::Direction;
 ghost use mathlib.Core.Path.{_≡_};
 ghost use mathlib.Core.List.{_++_, _∷_, [], map};
-ghost use mathlib.Core.Bool.{cond};
+ghost use mathlib.Core.Bool.{cond, false};
 ghost use lib.Dec.{eqb};
 ghost use Prim.Native.Nat.{_+_, _≤_, _<_};
-ghost use Rattle.reliability.specs.Networks.{Valid, linkAt};
-ghost use Rattle.reliability.specs.Rule.{rename, renamed, next, deleteAt, without, deleted, removed, joined, inParallel, inSeries, contracted};
-ghost use Rattle.network.specs.Places.{networkOf, linksOf, nodesOf, nodesIn, from, indexOf, Used, Built, ranked, Placed};
-
-mod search;
+ghost use Rattle.reliability.specs.Networks.{Proper};
+ghost use Rattle.reliability.specs.Rule.{isLoop, rename, renamed, deleteAt, without, deleted, removed, joined, inParallel, inSeries, contracted};
+ghost use Rattle.search.specs.Searches.{from, nodesIn};
+ghost use Rattle.network.specs.Places.{networkOf, linksOf, nodesOf, indexOf, linkOf, Used, Invariant, Built, Fitting};
 
 pub struct Network {
     pub alive: u64,
@@ -62,7 +61,7 @@ impl Network {
     // The nodes 0 to n - 1, and no link.
     pub fn new(n: u32) -> Network
         requires { ⌜ n ≤ 32 ⌝ }
-        ensures { λ r. ⌜ (nodesOf r ≡ from 0 n) × (linksOf r ≡ []) × Built r 0 ⌝ }
+        ensures { λ r. ⌜ (nodesOf r ≡ from 0 n) × (linksOf r ≡ []) × Built r 0 × Invariant r ⌝ }
     {
         Network {
             alive: 0,
@@ -76,8 +75,8 @@ impl Network {
 
     // The network with a link more, at place k, behind all others.
     pub fn with_link(mut self, k: usize, l: Link) -> Network
-        requires { ⌜ Built self k × (k < 64) ⌝ }
-        ensures { λ r. ⌜ (nodesOf r ≡ nodesOf self) × (linksOf r ≡ linksOf self ++ (l ∷ [])) × Built r (k + 1) ⌝ }
+        requires { ⌜ Invariant self × Built self k × (k < 64) × Proper (nodesOf self) l ⌝ }
+        ensures { λ r. ⌜ (nodesOf r ≡ nodesOf self) × (linksOf r ≡ linksOf self ++ (l ∷ [])) × Built r (k + 1) × Invariant r ⌝ }
     {
         self.a[k] = l.a;
         self.b[k] = l.b;
@@ -91,7 +90,7 @@ impl Network {
     // The link at place i.
     pub fn link(self, i: usize) -> Link
         requires { ⌜ Used self i ⌝ }
-        ensures { λ r. ⌜ r ≡ linkAt (networkOf self) (indexOf self i) ⌝ }
+        ensures { λ r. ⌜ r ≡ linkOf self i ⌝ }
     {
         Link {
             a: self.a[i],
@@ -103,8 +102,8 @@ impl Network {
 
     // Link i goes.
     pub fn deleted(mut self, i: usize) -> Network
-        requires { ⌜ Used self i ⌝ }
-        ensures { λ r. ⌜ networkOf r ≡ deleted (indexOf self i) (networkOf self) ⌝ }
+        requires { ⌜ Invariant self × Used self i ⌝ }
+        ensures { λ r. ⌜ (networkOf r ≡ deleted (indexOf self i) (networkOf self)) × Invariant r ⌝ }
     {
         let others = bits::without(self.alive, i);
         self.alive = others;
@@ -113,8 +112,8 @@ impl Network {
 
     // Step 4: links i and j as one.
     pub fn parallel(mut self, i: usize, j: usize) -> Network
-        requires { ⌜ Valid (networkOf self) × Used self i × Used self j ⌝ }
-        ensures { λ r. ⌜ networkOf r ≡ joined (indexOf self i) (indexOf self j) (inParallel (linkAt (networkOf self) (indexOf self i)) (linkAt (networkOf self) (indexOf self j))) (networkOf self) ⌝ }
+        requires { ⌜ Invariant self × Fitting self (Step.Parallel i j) ⌝ }
+        ensures { λ r. ⌜ (networkOf r ≡ joined (indexOf self i) (indexOf self j) (inParallel (linkOf self i) (linkOf self j)) (networkOf self)) × Invariant r ⌝ }
     {
         let low = rounding::parallel(Direction::Down, self.low[i], self.low[j]);
         let high = rounding::parallel(Direction::Up, self.high[i], self.high[j]);
@@ -127,8 +126,8 @@ impl Network {
 
     // Step 5: node v and its one link i go.
     pub fn end(mut self, v: usize, i: usize) -> Network
-        requires { ⌜ (v < 32) × Used self i ⌝ }
-        ensures { λ r. ⌜ networkOf r ≡ removed v (deleted (indexOf self i) (networkOf self)) ⌝ }
+        requires { ⌜ Invariant self × Fitting self (Step.End v i) ⌝ }
+        ensures { λ r. ⌜ (networkOf r ≡ removed v (deleted (indexOf self i) (networkOf self))) × Invariant r ⌝ }
     {
         let others = without_node(self.nodes, v);
         let alive = bits::without(self.alive, i);
@@ -139,8 +138,8 @@ impl Network {
 
     // Step 6: node v goes, and its links i and j become one.
     pub fn series(mut self, v: usize, i: usize, j: usize) -> Network
-        requires { ⌜ Valid (networkOf self) × (v < 32) × Used self i × Used self j ⌝ }
-        ensures { λ r. ⌜ networkOf r ≡ removed v (joined (indexOf self i) (indexOf self j) (inSeries v (linkAt (networkOf self) (indexOf self i)) (linkAt (networkOf self) (indexOf self j))) (networkOf self)) ⌝ }
+        requires { ⌜ Invariant self × Fitting self (Step.Series v i j) ⌝ }
+        ensures { λ r. ⌜ (networkOf r ≡ removed v (joined (indexOf self i) (indexOf self j) (inSeries v (linkOf self i) (linkOf self j)) (networkOf self))) × Invariant r ⌝ }
     {
         let low = rounding::series(Direction::Down, self.low[i], self.low[j]);
         let high = rounding::series(Direction::Up, self.high[i], self.high[j]);
@@ -157,10 +156,10 @@ impl Network {
         self
     }
 
-    // Step 7, sound: link i goes, and its larger end is renamed to the smaller.
+    // Step 7, sound: link i, no loop, goes, and its larger end is renamed to the smaller.
     pub fn contracted(mut self, i: usize) -> Network
-        requires { ⌜ Valid (networkOf self) × Used self i ⌝ }
-        ensures { λ r. ⌜ networkOf r ≡ contracted (linkAt (networkOf self) (indexOf self i)) (deleted (indexOf self i) (networkOf self)) ⌝ }
+        requires { ⌜ Invariant self × Used self i × (isLoop (linkOf self i) ≡ false) ⌝ }
+        ensures { λ r. ⌜ (networkOf r ≡ contracted (linkOf self i) (deleted (indexOf self i) (networkOf self))) × Invariant r ⌝ }
     {
         let x = self.a[i];
         let y = self.b[i];
@@ -191,8 +190,8 @@ impl Network {
 
     // Which step fits.
     pub fn step(self) -> Step
-        requires { ⌜ Valid (networkOf self) ⌝ }
-        ensures { λ r. ⌜ (ranked self r ≡ next (networkOf self)) × Placed self r ⌝ }
+        requires { ⌜ Invariant self ⌝ }
+        ensures { λ r. ⌜ Fitting self r ⌝ }
     {
         let alive = self.alive;
         let nodes = self.nodes as u64;

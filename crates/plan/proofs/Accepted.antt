@@ -1,37 +1,26 @@
 -- The network of an accepted plan is valid, with its low and high values equal.
 use Prim.Native.Nat.{ℕ, zero, suc, _+_, _≤_, _<_}
 use mathlib.Core.Path.{_≡_, refl, sym, ap, ap₂, _∙_, subst}
-use mathlib.Core.List.{List, _∷_, List·Memᴰ, List·Memᴰ·head, List·Memᴰ·tail, List·Memᴰ·not-nil, List·Memᴰ·cases-cons}
-use mathlib.Core.Logic.{⊎-elim}
+use mathlib.Core.List.{List, _∷_, List·Memᴰ, List·Memᴰ·head, List·Memᴰ·tail}
 use native.Mathlib.Nat.{le-of-lt, zero-add}
 use native.Mathlib.Omega.{arith}
 use native.Mathlib.Decide.{ℕ-discrete}
 use lib.ListN.{length}
 use Rattle.reliability.specs.declared.Link.{Link}
-use Rattle.reliability.specs.Networks.{Network, Ascending, Valid, linked, linkAt}
+use Rattle.reliability.specs.Networks.{Network, Valid, linked, linkAt}
 use Rattle.reliability.specs.Exact.{Equal}
 use Rattle.reliability.specs.Comparisons.{importance}
 use Rattle.network.specs.declared.Network.{Network as Slots}
 use Rattle.plan.specs.declared.Verdict.the-variants.{Accepted}
 use Rattle.plan.specs.Plans.{sizeN, sizeM, firstEnd, secondEnd, verdict, linkIn, planOf}
 use Rattle.network.specs.Places.{from, networkOf, indexOf, Used, Built}
-use Rattle.network.proofs.Picks.{built-used, built-index}
+use Rattle.network.proofs.Picks.{ascending-from, built-used, built-index}
 use Rattle.plan.proofs.Links.{length-links, link-in, one-value, links-proper}
 
 pub length-from : (i k : ℕ) → length (from i k) ≡ k
 unfolding from
 length-from i zero = refl
 length-from i (suc k) = ap suc (length-from (suc i) k)
-
-above : (i k u : ℕ) → List·Memᴰ u (from i k) → i ≤ u
-unfolding from
-above i zero u m = absurd (List·Memᴰ·not-nil m)
-above i (suc k) u m = ⊎-elim (λ (e : u ≡ i). omega arith) (λ n. let h = above (suc i) k u n in omega arith) (List·Memᴰ·cases-cons m)
-
-ascending : (i k : ℕ) → Ascending (from i k)
-unfolding from Ascending
-ascending i zero = tt
-ascending i (suc k) = (λ u m. above (suc i) k u m, ascending (suc i) k)
 
 within : (i k v : ℕ) → i ≤ v → v < i + k → List·Memᴰ v (from i k)
 unfolding from
@@ -44,7 +33,7 @@ within i (suc k) v h l = go (ℕ-discrete v i) (within (suc i) k v)
 
 module _ (b : List ℕ) where
   pub plan-valid : verdict b ≡ Accepted → Valid (planOf b)
-  plan-valid h = record { ascending = ascending 0 (sizeN b); proper = links-proper b (from 0 (sizeN b)) (λ v l. within 0 (sizeN b) v (omega arith) (omega arith)) h }
+  plan-valid h = record { ascending = ascending-from 0 (sizeN b); proper = links-proper b (from 0 (sizeN b)) (λ v l. within 0 (sizeN b) v (omega arith) (omega arith)) h }
 
   pub plan-equal : Equal (planOf b)
   plan-equal e m = one-value b e m
@@ -64,13 +53,10 @@ module _ (b : List ℕ) where
 
   -- a network by value that stands for the plan
   module _ (n : Slots) (is : networkOf n ≡ planOf b) where
-    pub stands-valid : verdict b ≡ Accepted → Valid (networkOf n)
-    stands-valid h = subst Valid (sym is) (plan-valid h)
-
     -- with its links at their places
     module _ (built : Built n (sizeM b)) (place : ℕ) (within : place < sizeM b) where
-      pub stands-plain : verdict b ≡ Accepted → Valid (networkOf n) × Equal (networkOf n) × Used n place
-      stands-plain h = (stands-valid h, subst Equal (sym is) plan-equal, built-used n (sizeM b) built place within)
+      pub stands-plain : Equal (networkOf n) × Used n place
+      stands-plain = (subst Equal (sym is) plan-equal, built-used n (sizeM b) built place within)
 
       pub stands-importance : (limit : ℕ) → importance (networkOf n) (indexOf n place) limit ≡ importance (planOf b) place limit
       stands-importance limit = ap₂ (λ (h : Network) (k : ℕ). importance h k limit) is (built-index n (sizeM b) built place (le-of-lt within))

@@ -5,7 +5,7 @@ ghost use mathlib.Core.Path.{_≡_};
 ghost use Prim.Native.Nat.{_+_, _*_, _≤_, _<_};
 ghost use lib.ListN.{length};
 ghost use Rattle.plan.specs.Plans.{byte, word16, word32, sizeN, sizeM, firstEnd, secondEnd, fileValue, rated, unitsOf, linkVerdict, linksVerdict, verdict, number, namedLink, returned, linkIn, planOf};
-ghost use Rattle.network.specs.Places.{networkOf, Built};
+ghost use Rattle.network.specs.Places.{networkOf, Built, Invariant};
 
 // S.
 const UNITS: u32 = 1_000_000_000;
@@ -296,7 +296,7 @@ pub fn link_at(plan: &[u8], i: usize) -> Link
 // The network of an accepted plan, its links at the places 0 to m - 1.
 pub fn network_of(plan: &[u8]) -> Network
     requires { ⌜ verdict (now plan) ≡ Verdict.Accepted ⌝ }
-    ensures { λ r. ⌜ (networkOf r ≡ planOf (now (plan .entry))) × Built r (sizeM (now (plan .entry))) ⌝ }
+    ensures { λ r. ⌜ (networkOf r ≡ planOf (now (plan .entry))) × Built r (sizeM (now (plan .entry))) × Invariant r ⌝ }
 {
     let s = sizes_of(plan);
     let m = s.m as usize;

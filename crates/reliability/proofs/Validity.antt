@@ -1,7 +1,7 @@
 -- What keeps a network valid: deletion, joining, removal of a node, contraction.
 use Prim.Native.Nat.{ℕ, _<_, _≤_, min, max}
 use mathlib.Core.Path.{_≡_, refl, sym, subst}
-use mathlib.Core.List.{List, [], _∷_, List·Memᴰ, Memᴰ·cast, Memᴰ·of-map}
+use mathlib.Core.List.{List, [], _∷_, _++_, List·Memᴰ, List·Memᴰ·not-nil, List·Memᴰ·append-cases, List·Memᴰ·eq-of-singleton, Memᴰ·cast, Memᴰ·of-map}
 use mathlib.Core.Bool.{Bool, true, false, cond}
 use mathlib.Core.Logic.{_⊎_, inl, inr, ⊎-elim}
 use native.Mathlib.Omega.{arith}
@@ -122,3 +122,14 @@ module _ (g : Network) (valid : Valid g) where
           let r = valid .proper k n in
           subst (Proper (without gone (g .nodes))) q (record { a-node = rename-node (k .a) (r .a-node); b-node = rename-node (k .b) (r .b-node); range = λ d. rw value-linked (r .range d); order = r .order });
     }
+
+-- ---- networks that are built link by link
+
+pub empty-valid : (vs : List ℕ) → Ascending vs → Valid (record { nodes = vs; links = [] })
+empty-valid vs h = record { ascending = h; proper = λ e m. absurd (List·Memᴰ·not-nil m) }
+
+pub appended-valid : (g : Network) → Valid g → (e : Link) → Proper (g .nodes) e → Valid (record { nodes = g .nodes; links = g .links ++ (e ∷ []) })
+appended-valid g valid e p = record {
+  ascending = valid .ascending;
+  proper = λ f m. ⊎-elim (valid .proper f) (λ n. subst (Proper (g .nodes)) (sym (List·Memᴰ·eq-of-singleton n)) p) (List·Memᴰ·append-cases (g .links) m);
+}

@@ -9,7 +9,6 @@ use Rattle.reliability.specs.Networks.{Network as Graph}
 use Rattle.reliability.specs.Comparisons.{difference}
 use Rattle.plan.specs.declared.Verdict.the-variants.{Accepted}
 use Rattle.plan.specs.Plans.{verdict, returned, planOf}
-use Rattle.plan.proofs.Accepted.{stands-valid}
 use Rattle.desk.specs.Outcomes.{asked, figureVerdict, unlessSecond, accepted, answered, twos, withDifference, Outcome, differenceOutcome}
 use Rattle.desk.proofs.Calls.{asked-accepted, refused, refused-second, answers, answers-second}
 use Rattle.plan.proofs.Verdicts.{returned-range, both-accepted}
@@ -84,8 +83,7 @@ network-of-requires-2 c κs = second-ok (c .before)
 difference-requires : tie.Need-difference-requires
 difference-requires c κs =
     let k = asks (c .before .before .before .before .before) in
-    let a = c .before .before .before .before .before .before .before .before .before .before .before .args in
-    (stands-valid (a .first .now) (c .before .network-of .result) (c .before .network-of .ensures .0) (k .2), stands-valid (a .second .now) (c .network-of2 .result) (c .network-of2 .ensures .0) (second-ok (c .before .before)), omega (arith, k .0))
+    (c .before .network-of .ensures .2, c .network-of2 .ensures .2, omega (arith, k .0))
 
 bits-of-requires : tie.Need-bits-of-requires
 bits-of-requires c κs = search needs

@@ -7,7 +7,6 @@ use Rattle.reliability.specs.Networks.{Network as Graph}
 use Rattle.reliability.specs.Rule.{figure}
 use Rattle.plan.specs.declared.Verdict.the-variants.{Accepted}
 use Rattle.plan.specs.Plans.{verdict, returned, planOf}
-use Rattle.plan.proofs.Accepted.{stands-valid}
 use Rattle.desk.specs.Outcomes.{asked, figureVerdict, figureOutcome, accepted, withFigure, Outcome}
 use Rattle.plan.proofs.Verdicts.{both-accepted}
 use Rattle.desk.proofs.Calls.{asked-accepted, refused, answers}
@@ -52,7 +51,7 @@ network-of-requires c κs = asks c .2
 work-requires : tie.Need-work-requires
 work-requires c κs =
     let k = asks (c .before) in
-    (stands-valid (c .before .before .before .before .before .before .args .plan .now) (c .network-of .result) (c .network-of .ensures .0) (k .2), omega (arith, k .0))
+    (c .network-of .ensures .2, omega (arith, k .0))
 
 put-answer-requires : tie.Need-put-answer-requires
 put-answer-requires c κs = asks (c .before .before .before) .1

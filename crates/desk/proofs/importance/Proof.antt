@@ -53,8 +53,8 @@ importance-requires : tie.Need-importance-requires
 importance-requires c κs =
     let k = asks (c .before) in
     let a = c .before .before .before .before .before .before .args in
-    let (valid, equal, used) = stands-plain (a .plan .now) (c .network-of .result) (c .network-of .ensures .0) (c .network-of .ensures .1) (a .place) (k .3) (k .2) in
-    (valid, equal, used, omega (arith, k .0))
+    let (equal, used) = stands-plain (a .plan .now) (c .network-of .result) (c .network-of .ensures .0) (c .network-of .ensures .1) (a .place) (k .3) in
+    (c .network-of .ensures .2, equal, used, omega (arith, k .0))
 
 put-answer-requires : tie.Need-put-answer-requires
 put-answer-requires c κs = asks (c .before .before .before) .1

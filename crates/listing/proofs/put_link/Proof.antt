@@ -30,8 +30,8 @@ importance-requires c κs =
     let a = c .before .before .before .before .args in
     let k = c .before .before .before .before .pre in
     let n = c .network-of in
-    let (valid, equal, used) = stands-plain (a .plan .now) (n .result) (n .ensures .0) (n .ensures .1) (a .i) (k .1) (k .0) in
-    (valid, equal, used, omega arith)
+    let (equal, used) = stands-plain (a .plan .now) (n .result) (n .ensures .0) (n .ensures .1) (a .i) (k .1) in
+    (n .ensures .2, equal, used, omega arith)
 
 slice-aggregate-put-line : tie.Need-slice-aggregate-put-line
 slice-aggregate-put-line c = search needs

@@ -10,7 +10,6 @@ use Rattle.reliability.specs.Rule.{figure}
 use Rattle.plan.specs.declared.Verdict.the-variants.{Accepted}
 use Rattle.plan.specs.Plans.{sizeN, sizeM, planOf}
 use Rattle.plan.proofs.Verdicts.{accepted-means}
-use Rattle.plan.proofs.Accepted.{stands-valid}
 use Rattle.listing.specs.Listings.{limit, sizesLine, figureLine, linkLines, listingBy}
 use Rattle.listing.proofs.Texts.{Remaining, begun, room, goes-on, done}
 use borrow.Author.Needs.{needs}
@@ -42,8 +41,7 @@ network-of-requires c κs = search needs
 
 work-requires : tie.Need-work-requires
 work-requires c κs =
-    let n = c .network-of in
-    (stands-valid (c .before .before .before .before .args .plan .now) (n .result) (n .ensures .0) (c .before .before .before .before .pre .0), omega arith)
+    (c .network-of .ensures .2, omega arith)
 
 -- the three parts
 abbrev sizes : List ℕ → List ℕ

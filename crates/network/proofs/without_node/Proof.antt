@@ -1,4 +1,5 @@
-use Rattle.network.proofs.Picks.{nodes-cleared, cleared-fits}
+use Rattle.bits.proofs.Operations.{cleared-fits}
+use Rattle.network.proofs.Picks.{nodes-cleared}
 use borrow.Author.Needs.{needs}
 use Rattle.network.proofs.without_node.Statement.{statement}
 use Rattle.network.proofs.without_node.Tie as tie

@@ -1,19 +1,32 @@
-use Prim.Native.Nat.{ℕ, _+_, _-_, _≤_}
-use mathlib.Core.Path.{_≡_, sym, ap, ap₂, _∙_, subst}
-use mathlib.Core.List.{List, [], _∷_, _++_}
+use Prim.Native.Nat.{ℕ, zero, suc, _+_, _-_, _≤_, _<_}
+use mathlib.Core.Path.{_≡_, sym, ap, ap₂, _∙_, subst, subst₂}
+use mathlib.Core.List.{List, [], _∷_, _++_, List·Memᴰ, List·Memᴰ·head, List·Memᴰ·tail}
 use Rattle.reliability.specs.declared.Link.{Link}
 use native.Mathlib.Omega.{arith}
+use native.Mathlib.Decide.{ℕ-discrete}
+use Rattle.reliability.specs.Networks.{Proper}
 use borrow.Author.Needs.{needs}
-use Rattle.network.specs.Places.{from, nodesOf, linksOf, Built}
-use Rattle.plan.specs.Plans.{sizeN, sizeM, linksIn, WellFormed}
+use Rattle.network.specs.Places.{from, nodesOf, linksOf, Built, Invariant}
+use Rattle.plan.specs.Plans.{sizeN, sizeM, linkIn, linksIn, WellFormed}
 use Rattle.plan.proofs.Verdicts.{accepted-means}
 use Rattle.plan.proofs.Links.{links-more}
+use Rattle.plan.proofs.Accepted.{plan-valid}
 use Rattle.plan.proofs.network_of.Statement.{statement}
 use Rattle.plan.proofs.network_of.Tie as tie
 
 abbrev Inv-loop : tie.InvT-loop
 Inv-loop plan m net₀ i₀ net i =
-    (m ≡ sizeM plan) × (i ≤ m) × Built net i × (nodesOf net ≡ from 0 (sizeN plan)) × (linksOf net ≡ linksIn plan 0 i)
+    (m ≡ sizeM plan) × (i ≤ m) × Built net i × Invariant net × (nodesOf net ≡ from 0 (sizeN plan)) × (linksOf net ≡ linksIn plan 0 i)
+
+-- the link at a place is one of the links
+link-mem : (b : List ℕ) (i k j : ℕ) → i ≤ j → j < i + k → List·Memᴰ (linkIn b j) (linksIn b i k)
+unfolding linksIn
+link-mem b i zero j h l = absurd (omega arith)
+link-mem b i (suc k) j h l = go (ℕ-discrete j i) (link-mem b (suc i) k j)
+  where
+    go : Dec (j ≡ i) → (suc i ≤ j → j < suc i + k → List·Memᴰ (linkIn b j) (linksIn b (suc i) k)) → List·Memᴰ (linkIn b j) (linkIn b i ∷ linksIn b (suc i) k)
+    go (yes e) later = List·Memᴰ·head (ap (linkIn b) e)
+    go (no n) later = List·Memᴰ·tail (later (omega arith) (omega arith))
 
 abbrev μ-loop : tie.MeasureT-loop
 μ-loop plan m net₀ i₀ net i = m - i
@@ -38,7 +51,7 @@ unfolding linksIn
 loop-holds c =
     let e = c .before .before .before .sizes-of .ensures in
     let n = c .new .ensures in
-    (e .1, omega arith, n .2, n .0 ∙ ap (from 0) (e .0), n .1)
+    (e .1, omega arith, n .2, n .3, n .0 ∙ ap (from 0) (e .0), n .1)
 
 link-at-requires : tie.Need-link-at-requires Inv-loop μ-loop
 link-at-requires c κs = let l = c .before .loop .inv in (c .before .before .before .before .before .before .before .pre, omega (arith, l .0))
@@ -47,7 +60,10 @@ with-link-requires : tie.Need-with-link-requires Inv-loop μ-loop
 with-link-requires c κs =
     let l = c .before .before .loop .inv in
     let w = well (c .before .before .before .before .before .before .before .before) in
-    (l .2, omega (arith, l .0, w .links))
+    let b = c .before .before .before .before .before .before .before .before .args .plan .now in
+    let i = c .before .before .loop .i in
+    let proper = plan-valid b (c .before .before .before .before .before .before .before .before .pre) .proper (linkIn b i) (link-mem b 0 (sizeM b) i (omega arith) (omega (arith, l .0))) in
+    (l .3, l .2, omega (arith, l .0, w .links), subst₂ Proper (sym (l .4)) (sym (c .link-at .ensures)) proper)
 
 add-i : tie.Need-add-i Inv-loop μ-loop
 add-i c = search needs
@@ -63,8 +79,9 @@ loop-again c =
       l .0,
       omega arith,
       e .2,
-      e .0 ∙ l .3,
-      e .1 ∙ ap₂ (λ (xs : List Link) (x : Link). xs ++ (x ∷ [])) (l .4) (c .before .link-at .ensures) ∙ sym (links-more b (c .before .before .before .loop .i)),
+      e .3,
+      e .0 ∙ l .4,
+      e .1 ∙ ap₂ (λ (xs : List Link) (x : Link). xs ++ (x ∷ [])) (l .5) (c .before .link-at .ensures) ∙ sym (links-more b (c .before .before .before .loop .i)),
     )
 
 returns : tie.Need-returns Inv-loop μ-loop
@@ -72,7 +89,7 @@ returns c =
     let l = c .before .loop .inv in
     let b = c .before .before .before .before .before .before .before .args .plan .now in
     let all : c .before .loop .i ≡ sizeM b = omega (arith, l .0) in
-    ((λ j. record { nodes = l .3 j; links = (l .4 ∙ ap (linksIn b 0) all) j }), subst (Built (c .before .loop .net)) all (l .2))
+    ((λ j. record { nodes = l .4 j; links = (l .5 ∙ ap (linksIn b 0) all) j }), subst (Built (c .before .loop .net)) all (l .2), l .3)
 
 pub network-of-spec : {M : Type 1} → statement M
 network-of-spec =

@@ -2,7 +2,8 @@ use mathlib.Core.Path.{ap, ap₂, _∙_}
 use mathlib.Core.List.{map}
 use Rattle.bits.specs.Members.{members}
 use Rattle.reliability.specs.Rule.{rename, renamed}
-use Rattle.network.specs.Places.{pick, rows}
+use Rattle.search.specs.Searches.{pick}
+use Rattle.network.specs.Places.{rows}
 use Rattle.network.proofs.Picks.{Sized, all-even, allRows, rows-map, pick-map, deleted-links}
 use borrow.Author.Needs.{needs}
 use Rattle.network.proofs.Network.merged.Statement.{statement}

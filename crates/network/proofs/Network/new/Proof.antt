@@ -2,8 +2,12 @@ use Prim.Native.Nat.{_-_}
 use mathlib.Core.Path.{ap, _∙_}
 use native.Mathlib.Omega.{arith}
 use Rattle.bits.proofs.Digits.{digits-zero}
-use Rattle.network.specs.Places.{pick, from, Built}
-use Rattle.network.proofs.Picks.{pick-first, pick-none, take-from, full-fits}
+use Rattle.bits.proofs.Operations.{full-fits}
+use Rattle.reliability.proofs.Validity.{empty-valid}
+use Rattle.search.specs.Searches.{pick, from}
+use Rattle.network.specs.Places.{Built}
+use Rattle.network.proofs.Picks.{pick-first, pick-none, take-from, ascending-from}
+use Rattle.network.proofs.Kept.{stands}
 use borrow.Author.Needs.{needs}
 use Rattle.network.proofs.Network.new.Statement.{statement}
 use Rattle.network.proofs.Network.new.Tie as tie
@@ -17,11 +21,10 @@ cast-t4 c = record { fits = full-fits (c .full .result) (c .before .args .n) (se
 returns : tie.Need-returns
 unfolding Built
 returns c =
-    let n = c .before .args .n in (
-      ap (λ bs. pick bs (from 0 64)) (c .full .ensures) ∙ pick-first n (64 - n) (from 0 64) ∙ take-from 0 n 64 (omega arith),
-      pick-none _,
-      digits-zero 64,
-    )
+    let n = c .before .args .n in
+    let nodes = ap (λ bs. pick bs (from 0 64)) (c .full .ensures) ∙ pick-first n (64 - n) (from 0 64) ∙ take-from 0 n 64 (omega arith) in
+    let links = pick-none _ in
+    (nodes, links, digits-zero 64, stands _ (λ t. record { nodes = nodes t; links = links t }) (empty-valid (from 0 n) (ascending-from 0 n)) .1)
 
 pub new-spec : {M : Type 1} → statement M
 new-spec = tie.close (tie.spec full-requires cast-t4 returns)

@@ -8,6 +8,7 @@ use Rattle.reliability.specs.Networks.{value}
 use Rattle.reliability.specs.Rule.{inParallel}
 use Rattle.network.specs.Places.{nodesOf}
 use Rattle.network.proofs.Picks.{Sized, all-even, row, rowAt, rows-values, values-within, joined-links}
+use Rattle.network.proofs.Kept.{stands, parallel-valid}
 use borrow.Author.Needs.{needs}
 use Rattle.network.proofs.Network.parallel.Statement.{statement}
 use Rattle.network.proofs.Network.parallel.Tie as tie
@@ -16,7 +17,7 @@ sized : (c : tie.Start) → Sized (c .args .t1)
 sized c = search needs
 
 within : (c : tie.Start) (d : Direction) → (value d (rowAt (c .args .t1) (c .args .i)) ≤ S) × (value d (rowAt (c .args .t1) (c .args .j)) ≤ S)
-within c = values-within (c .args .t1) (sized c) (c .pre .0) (c .args .i) (c .args .j) (c .pre .1) (c .pre .2)
+within c = values-within (c .args .t1) (sized c) (c .pre .0 .valid) (c .args .i) (c .args .j) (c .pre .1 .placed .0) (c .pre .1 .placed .1)
 
 mul-parallel : tie.Need-mul-parallel
 mul-parallel c = search needs
@@ -74,8 +75,8 @@ returns c =
     let e = row (getD (n .a) i 0) (getD (n .b) i 0) (low .result) (high .result) in
     let made : e ≡ inParallel (rowAt n i) (rowAt n j) = λ t. row (getD (n .a) i 0) (getD (n .b) i 0) (low .ensures t) (high .ensures t) in
     let written = rows-values (all-even n (sized s)) i (low .result) (high .result) in
-    let links = joined-links n _ j _ (s .pre .2) (c .without .ensures) (sized s) i e inParallel (s .pre .1) written made in
-    λ t. record { nodes = nodesOf n; links = links t }
+    let links = joined-links n _ j _ (s .pre .1 .placed .1) (c .without .ensures) (sized s) i e inParallel (s .pre .1 .placed .0) written made in
+    stands _ (λ t. record { nodes = nodesOf n; links = links t }) (parallel-valid n (s .pre .0) i j (s .pre .1))
 
 pub parallel-spec : {M : Type 1} → statement M
 parallel-spec =

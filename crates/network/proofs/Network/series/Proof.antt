@@ -6,6 +6,7 @@ use Rattle.rounding.specs.declared.Direction.the-variants.{Down, Up}
 use Rattle.reliability.specs.Networks.{value}
 use Rattle.reliability.specs.Rule.{inSeries}
 use Rattle.network.proofs.Picks.{Sized, all-even, row, rowAt, rows-set, values-within, joined-links}
+use Rattle.network.proofs.Kept.{stands, series-valid}
 use borrow.Author.Needs.{needs}
 use Rattle.network.proofs.Network.series.Statement.{statement}
 use Rattle.network.proofs.Network.series.Tie as tie
@@ -14,7 +15,7 @@ sized : (c : tie.Start) → Sized (c .args .t1)
 sized c = search needs
 
 within : (c : tie.Start) (d : Direction) → (value d (rowAt (c .args .t1) (c .args .i)) ≤ S) × (value d (rowAt (c .args .t1) (c .args .j)) ≤ S)
-within c = values-within (c .args .t1) (sized c) (c .pre .0) (c .args .i) (c .args .j) (c .pre .2) (c .pre .3)
+within c = values-within (c .args .t1) (sized c) (c .pre .0 .valid) (c .args .i) (c .args .j) (c .pre .1 .placed .1) (c .pre .1 .placed .2)
 
 mul-series : tie.Need-mul-series
 mul-series c = search needs
@@ -107,8 +108,8 @@ returns c =
     let e = row (a .result) (b .result) (low .result) (high .result) in
     let made : e ≡ inSeries (s .args .v) (rowAt n i) (rowAt n j) = λ t. row (a .ensures t) (b .ensures t) (low .ensures t) (high .ensures t) in
     let written = rows-set (all-even n (sized s)) i e in
-    let links = joined-links n _ j _ (s .pre .3) (c .without .ensures) (sized s) i e (inSeries (s .args .v)) (s .pre .2) written made in
-    λ t. record { nodes = c .before .without-node .ensures t; links = links t }
+    let links = joined-links n _ j _ (s .pre .1 .placed .2) (c .without .ensures) (sized s) i e (inSeries (s .args .v)) (s .pre .1 .placed .1) written made in
+    stands _ (λ t. record { nodes = c .before .without-node .ensures t; links = links t }) (series-valid n (s .pre .0) (s .args .v) i j (s .pre .1))
 
 pub series-spec : {M : Type 1} → statement M
 series-spec =

@@ -8,10 +8,11 @@ use lib.ListN.{getD}
 use borrow.Author.Needs.{needs}
 use borrow.Author.Tests.{leb-false, not-true, not-false}
 use Rattle.bits.specs.Members.{members, howMany}
-use Rattle.network.specs.Places.{loops, withLinks}
+use Rattle.search.specs.Searches.{loops, withLinks}
 use Rattle.network.proofs.Picks.{Sized}
-use Rattle.network.proofs.Marks.{counted-some, ended, bounded}
-use Rattle.network.proofs.Rules.{missed}
+use Rattle.search.proofs.Marks.{counted-some}
+use Rattle.search.proofs.Answers.{missed}
+use Rattle.network.proofs.Ends.{ended, bounded}
 use Rattle.network.proofs.Next.{Whole, Unpaired, loop-right, one-right, apart-right, pair-right, node, end-right, series-right, split-right}
 use Rattle.network.proofs.Network.step.Statement.{statement}
 use Rattle.network.proofs.Network.step.Tie as tie
@@ -98,13 +99,13 @@ incidence-requires : tie.Need-incidence-requires
 incidence-requires c κs =
     let s = nodes-start (c .before .before .before) in
     let full = sized s in
-    (full .a-length, full .b-length, bounded (s .args .t1) full (s .pre))
+    (full .a-length, full .b-length, bounded (s .args .t1) full (s .pre .valid))
 
 connects-requires : tie.Need-connects-requires
 connects-requires c κs =
     let i = c .before .before .before .before in
     let s = nodes-start (tested i) in
-    (counted-some (s .args .t1 .nodes) (omega (arith, leb-false (howMany (members (s .args .t1 .nodes))) 1 (more (tested i)))), sized s .nodes, i .incidence .ensures, ended (s .args .t1) (sized s) (s .pre))
+    (counted-some (s .args .t1 .nodes) (omega (arith, leb-false (howMany (members (s .args .t1 .nodes))) 1 (more (tested i)))), sized s .nodes, i .incidence .ensures, ended (s .args .t1) (sized s) (s .pre .valid))
 
 returns-3 : tie.Need-returns-3
 returns-3 c =
@@ -116,7 +117,7 @@ first-pair-requires : tie.Need-first-pair-requires
 first-pair-requires c κs =
     let e = c .before .before .before .before in
     let s = whole-start e in
-    (bounded (s .args .t1) (sized s) (s .pre), gathered e .incidence .ensures)
+    (bounded (s .args .t1) (sized s) (s .pre .valid), gathered e .incidence .ensures)
 
 enum-known-i-2 : tie.Need-enum-known-i-2
 enum-known-i-2 c = search needs
@@ -208,7 +209,7 @@ returns-7 c =
     let f = c .before .before .before in
     let t = f .before .before in
     let s = whole-start (connected-at (paired-at t)) in
-    split-right _ _ (unpaired (paired-at t)) (no-end t) (s .pre) (missed _ (sym (f .lowest-with2 .ensures) ∙ c .before .enum-told4 .given .1)) _ (c .lowest4 .ensures)
+    split-right _ _ (unpaired (paired-at t)) (no-end t) (s .pre .valid) (missed _ (sym (f .lowest-with2 .ensures) ∙ c .before .enum-told4 .given .1)) _ (c .lowest4 .ensures)
 
 pub step-spec : {M : Type 1} → statement M
 step-spec =

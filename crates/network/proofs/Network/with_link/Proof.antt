@@ -1,7 +1,10 @@
 use mathlib.Core.Path.{refl}
 use lib.ListN.{set}
+use Rattle.reliability.proofs.Validity.{appended-valid}
 use Rattle.network.specs.declared.Network.{Network}
+use Rattle.network.specs.Places.{nodesOf, networkOf}
 use Rattle.network.proofs.Picks.{Sized, all-even, rows-set, built-more, built-appended}
+use Rattle.network.proofs.Kept.{stands}
 use borrow.Author.Needs.{needs}
 use Rattle.network.proofs.Network.with_link.Statement.{statement}
 use Rattle.network.proofs.Network.with_link.Tie as tie
@@ -37,7 +40,9 @@ returns c =
     let k = s .args .k in
     let l = s .args .l in
     let r : Network = record { alive = c .with .result; nodes = n .nodes; a = set (n .a) k (l .a); b = set (n .b) k (l .b); low = set (n .low) k (l .low); high = set (n .high) k (l .high) } in
-    (refl, built-appended n r k (s .pre .0) (s .pre .1) (c .with .ensures) (sized s) l (rows-set (all-even n (sized s)) k l), built-more n r k (s .pre .0) (s .pre .1) (c .with .ensures))
+    let links = built-appended n r k (s .pre .1) (s .pre .2) (c .with .ensures) (sized s) l (rows-set (all-even n (sized s)) k l) in
+    let valid = appended-valid (networkOf n) (s .pre .0 .valid) l (s .pre .3) in
+    (refl, links, built-more n r k (s .pre .1) (s .pre .2) (c .with .ensures), stands r (λ t. record { nodes = nodesOf n; links = links t }) valid .1)
 
 pub with-link-spec : {M : Type 1} → statement M
 with-link-spec =

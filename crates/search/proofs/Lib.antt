@@ -1,0 +1,6 @@
+pub mod Sets
+pub mod Marks
+pub mod Answers
+pub mod Gather
+pub mod Pairs
+pub mod Flood

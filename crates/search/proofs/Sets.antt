@@ -1,0 +1,147 @@
+-- Sets of places, place by place.
+use Prim.Native.Nat.{ℕ, zero, suc, _+_, _/_, _^_, min, _≤_, _<_}
+use mathlib.Core.Path.{_≡_, refl, sym, ap, _∙_}
+use mathlib.Core.List.{List, [], _∷_, zipWith, List·Memᴰ, List·Memᴰ·head, List·Memᴰ·tail, List·Memᴰ·not-nil, Memᴰ·cast}
+use mathlib.Core.Bool.{Bool, true, false, cond, not, _&&_, _||_, true≢false}
+use native.Mathlib.Nat.{pow-suc, add-zero}
+use native.Mathlib.Omega.{arith}
+use lib.Dec.{eqb}
+use lib.ListN.{length, getD, set}
+use lib.Seq.{getD-set-same, getD-set-other, ext-getD}
+use Rattle.bits.specs.Members.{digits, members}
+use Rattle.bits.proofs.Places.{getD-zipWith}
+use Rattle.bits.proofs.Digits.{length-digits, digits-injective}
+use Rattle.reliability.proofs.Lists.{by-eqb}
+use Rattle.search.specs.Searches.{pick, from, nodesIn, marked, touching, Incidence}
+
+-- whether p is in the set s
+abbrev pub has : ℕ → ℕ → Bool
+has s p = getD (members s) p false
+
+-- nothing is in the empty set
+none : (k p : ℕ) → getD (digits k 0) p false ≡ false
+unfolding digits
+none zero p = refl
+none (suc k) zero = refl
+none (suc k) (suc p) = none k p
+
+-- what is in a set below 2 ^ j is below j
+within : (k j n p : ℕ) → n < 2 ^ j → getD (digits k n) p false ≡ true → p < j
+unfolding digits
+within zero j n p h e = absurd (true≢false (sym e))
+within (suc k) zero n p h e =
+    let z : n ≡ 0 = omega arith in
+    absurd (true≢false (sym e ∙ ap (λ (m : ℕ). getD (digits (suc k) m) p false) z ∙ none (suc k) p))
+within (suc k) (suc j) n zero h e = omega arith
+within (suc k) (suc j) n (suc p) h e = omega (arith, within k j (n / 2) p (omega (arith, pow-suc 2 j)) e)
+
+pub set-below : (bs : List Bool) (k : ℕ) → getD bs k false ≡ true → k < length bs
+set-below [] k e = absurd (true≢false (sym e))
+set-below (b ∷ bs) zero e = omega arith
+set-below (b ∷ bs) (suc k) e = omega (arith, set-below bs k e)
+
+pub has-place : (s p : ℕ) → has s p ≡ true → p < 64
+has-place s p e = omega (arith, set-below (members s) p e, length-digits 64 s)
+
+pub has-none : (p : ℕ) → has 0 p ≡ false
+has-none p = none 64 p
+
+pub has-below : (s k p : ℕ) → s < 2 ^ k → has s p ≡ true → p < k
+has-below s k p = within 64 k s p
+
+-- one place put into a set, or taken out
+has-set : (r s i : ℕ) (v : Bool) → members r ≡ set (members s) i v → i < 64 → (p : ℕ) → has r p ≡ cond (eqb p i) v (has s p)
+has-set r s i v e h p =
+    ap (λ (bs : List Bool). getD bs p false) e
+    ∙ by-eqb (λ b. getD (set (members s) i v) p false ≡ cond b v (has s p)) p i
+    (λ same. ap (λ (q : ℕ). getD (set (members s) i v) q false) same ∙ getD-set-same (members s) i v false (omega (arith, length-digits 64 s)))
+    (λ other. getD-set-other (members s) i p v false other)
+
+pub has-with : (r s i : ℕ) → members r ≡ set (members s) i true → i < 64 → (p : ℕ) → has r p ≡ (eqb p i || has s p)
+has-with r s i e h p = has-set r s i true e h p ∙ go (eqb p i) (has s p)
+  where
+    go : (b c : Bool) → cond b true c ≡ (b || c)
+    go true c = refl
+    go false c = refl
+
+pub has-without : (r s i : ℕ) → members r ≡ set (members s) i false → i < 64 → (p : ℕ) → has r p ≡ (not (eqb p i) && has s p)
+has-without r s i e h p = has-set r s i false e h p ∙ go (eqb p i) (has s p)
+  where
+    go : (b c : Bool) → cond b false c ≡ (not b && c)
+    go true c = refl
+    go false c = refl
+
+same-length : (s t : ℕ) → length (members s) ≡ length (members t)
+same-length s t = length-digits 64 s ∙ sym (length-digits 64 t)
+
+-- an operation on two sets, at a place
+pub has-zip : (g : Bool → Bool → Bool) → g false false ≡ false → (r s t : ℕ) → members r ≡ zipWith g (members s) (members t)
+    → (p : ℕ) → has r p ≡ g (has s p) (has t p)
+has-zip g z r s t e p = ap (λ (bs : List Bool). getD bs p false) e ∙ getD-zipWith g z (members s) (members t) (same-length s t) p
+
+-- a set is known by its members
+pub has-all : (s t : ℕ) → s < 2 ^ 64 → t < 2 ^ 64 → ((p : ℕ) → has s p ≡ has t p) → s ≡ t
+has-all s t hs ht e =
+    digits-injective 64 s t hs ht (ext-getD false (members s) (members t) (same-length s t) (λ p h. e p))
+
+-- ---- the members of a set, listed
+
+-- what stands at place p of the numbers from i on is i + p
+mem-from : (bs : List Bool) (i k p : ℕ) → getD bs p false ≡ true → p < k → List·Memᴰ (i + p) (pick bs (from i k))
+unfolding pick from
+mem-from [] i k p e h = absurd (true≢false (sym e))
+mem-from (b ∷ bs) i zero p e h = absurd (omega arith)
+mem-from (true ∷ bs) i (suc k) zero e h = List·Memᴰ·head (add-zero i)
+mem-from (false ∷ bs) i (suc k) zero e h = absurd (true≢false (sym e))
+mem-from (true ∷ bs) i (suc k) (suc p) e h = List·Memᴰ·tail (Memᴰ·cast (omega arith) (mem-from bs (suc i) k p e (omega arith)))
+mem-from (false ∷ bs) i (suc k) (suc p) e h = Memᴰ·cast (omega arith) (mem-from bs (suc i) k p e (omega arith))
+
+pub from-mem : (bs : List Bool) (i k : ℕ) {u : ℕ} → List·Memᴰ u (pick bs (from i k)) → (p : ℕ) × (getD bs p false ≡ true) × (u ≡ i + p)
+unfolding pick from
+from-mem [] i k m = absurd (List·Memᴰ·not-nil m)
+from-mem (b ∷ bs) i zero m = absurd (List·Memᴰ·not-nil m)
+from-mem (true ∷ bs) i (suc k) (List·Memᴰ·head e) = (0, refl, omega arith)
+from-mem (true ∷ bs) i (suc k) (List·Memᴰ·tail m) = let r = from-mem bs (suc i) k m in (suc (r .0), r .1, omega (arith, r .2))
+from-mem (false ∷ bs) i (suc k) m = let r = from-mem bs (suc i) k m in (suc (r .0), r .1, omega (arith, r .2))
+
+-- the nodes of a set are its members
+pub has-mem : (s u : ℕ) → has s u ≡ true → u < 64 → List·Memᴰ u (nodesIn s)
+has-mem s u e h = Memᴰ·cast (omega arith) (mem-from (members s) 0 64 u e h)
+
+pub mem-has : (s u : ℕ) → List·Memᴰ u (nodesIn s) → has s u ≡ true
+mem-has s u m =
+    let r = from-mem (members s) 0 64 m in
+    let e : u ≡ r .0 = omega (arith, r .2) in
+    rw e (r .1)
+
+-- ---- the places in use at which a test of the two ends holds
+
+pub getD-marked : (t : ℕ → ℕ → Bool) (us : List Bool) (as₁ bs : List ℕ) (p : ℕ) → length us ≤ length as₁ → length us ≤ length bs
+    → getD (marked t us as₁ bs) p false ≡ (getD us p false && t (getD as₁ p 0) (getD bs p 0))
+unfolding marked
+getD-marked t [] as₁ bs p h k = refl
+getD-marked t (u ∷ us) [] bs p h k = absurd (omega arith)
+getD-marked t (u ∷ us) (a ∷ as₁) [] p h k = absurd (omega arith)
+getD-marked t (u ∷ us) (a ∷ as₁) (b ∷ bs) zero h k = refl
+getD-marked t (u ∷ us) (a ∷ as₁) (b ∷ bs) (suc p) h k = getD-marked t us as₁ bs p (omega arith) (omega arith)
+
+pub length-marked : (t : ℕ → ℕ → Bool) (us : List Bool) (as₁ bs : List ℕ) → length (marked t us as₁ bs) ≡ min (length us) (min (length as₁) (length bs))
+unfolding marked
+length-marked t [] as₁ bs = omega arith
+length-marked t (u ∷ us) [] bs = omega arith
+length-marked t (u ∷ us) (a ∷ as₁) [] = omega arith
+length-marked t (u ∷ us) (a ∷ as₁) (b ∷ bs) = omega (arith, length-marked t us as₁ bs)
+
+module _ (at as₁ bs : List ℕ) (alive : ℕ) (incidence : Incidence at alive as₁ bs) where
+  -- the ends have all 64 places
+  pub full : (64 ≤ length as₁) × (64 ≤ length bs)
+  full =
+      let e : 64 ≡ length (marked (touching 0) (members alive) as₁ bs) = sym (length-digits 64 (getD at 0 0)) ∙ ap length (incidence 0 (omega arith)) in
+      let r = length-marked (touching 0) (members alive) as₁ bs in
+      (omega arith, omega arith)
+
+  -- the places at a node
+  pub at-node : (v : ℕ) → v < 32 → (p : ℕ) → has (getD at v 0) p ≡ (has alive p && touching v (getD as₁ p 0) (getD bs p 0))
+  at-node v h p =
+      ap (λ (us : List Bool). getD us p false) (incidence v h)
+      ∙ getD-marked (touching v) (members alive) as₁ bs p (omega (arith, length-digits 64 alive, full)) (omega (arith, length-digits 64 alive, full))

@@ -1,0 +1,92 @@
+-- Sets of places as lists, the links at their places, and what the searches find.
+use Prim.Native.Nat.{ℕ, zero, suc, _<_}
+use mathlib.Core.Path.{_≡_}
+use mathlib.Core.List.{List, [], _∷_}
+use mathlib.Core.Bool.{Bool, true, false, _&&_, _||_}
+use lib.Dec.{eqb}
+use lib.ListN.{getD}
+use Rattle.bits.specs.Members.{members, howMany}
+use Rattle.reliability.specs.Networks.{Ends}
+use Rattle.search.specs.declared.Found.{Found}
+use Rattle.search.specs.declared.Found.the-variants.{At, Nothing}
+use Rattle.search.specs.declared.Pair.{Pair}
+use Rattle.search.specs.declared.Pair.the-variants.{Both, Neither}
+
+-- what stands at the places that are set
+unfoldable pub pick : {A : Type 0} → List Bool → List A → List A
+pick [] xs = []
+pick (b ∷ bs) [] = []
+pick (true ∷ bs) (x ∷ xs) = x ∷ pick bs xs
+pick (false ∷ bs) (x ∷ xs) = pick bs xs
+
+-- the numbers from i on, k of them
+unfoldable pub from : ℕ → ℕ → List ℕ
+from i zero = []
+from i (suc k) = i ∷ from (suc i) k
+
+-- the places of a set
+abbrev pub placesIn : ℕ → List ℕ
+placesIn s = pick (members s) (from 0 64)
+
+-- the nodes of a set
+abbrev pub nodesIn : ℕ → List ℕ
+nodesIn = placesIn
+
+-- ---- the links at their places
+
+-- the places in use at which a test of the two ends holds
+unfoldable pub marked : (ℕ → ℕ → Bool) → List Bool → List ℕ → List ℕ → List Bool
+marked t [] as₁ bs = []
+marked t (u ∷ us) [] bs = []
+marked t (u ∷ us) (a ∷ as₁) [] = []
+marked t (u ∷ us) (a ∷ as₁) (b ∷ bs) = (u && t a b) ∷ marked t us as₁ bs
+
+abbrev pub touching : ℕ → ℕ → ℕ → Bool
+touching v a b = eqb a v || eqb b v
+
+-- at has the places of the links at each node
+abbrev pub Incidence : List ℕ → ℕ → List ℕ → List ℕ → Type 0
+Incidence at alive as₁ bs = (v : ℕ) → v < 32 → members (getD at v 0) ≡ marked (touching v) (members alive) as₁ bs
+
+-- the ends of the links in use are below 32
+abbrev pub Bounded : ℕ → List ℕ → List ℕ → Type 0
+Bounded alive as₁ bs = (p : ℕ) → getD (members alive) p false ≡ true → (getD as₁ p 0 < 32) × (getD bs p 0 < 32)
+
+-- they are in the set s
+abbrev pub Ended : ℕ → ℕ → List ℕ → List ℕ → Type 0
+Ended s alive as₁ bs = (p : ℕ) → getD (members alive) p false ≡ true → (getD (members s) (getD as₁ p 0) false ≡ true) × (getD (members s) (getD bs p 0) false ≡ true)
+
+-- the ends by place
+unfoldable pub endsByPlace : List ℕ → List ℕ → List Ends
+endsByPlace (a ∷ as₁) (b ∷ bs) = record { a = a; b = b } ∷ endsByPlace as₁ bs
+endsByPlace [] bs = []
+endsByPlace (a ∷ as₁) [] = []
+
+-- ---- what the searches find
+
+-- of a list of places those at which a test holds
+unfoldable pub filter : (ℕ → Bool) → List ℕ → List ℕ
+filter p [] = []
+filter p (k ∷ ks) = elim (p k) [ true ↦ k ∷ filter p ks | false ↦ filter p ks ]
+
+-- the first of a list
+abbrev pub found : List ℕ → Found
+found [] = Nothing
+found (k ∷ ks) = At k
+
+-- the places in use whose link joins a node to itself
+abbrev pub loops : ℕ → List ℕ → List ℕ → List ℕ
+loops alive as₁ bs = filter (λ k. eqb (getD as₁ k 0) (getD bs k 0)) (placesIn alive)
+
+-- the link at j touches both ends of the link at i
+abbrev pub beside : List ℕ → List ℕ → ℕ → ℕ → Bool
+beside as₁ bs i j = touching (getD as₁ i 0) (getD as₁ j 0) (getD bs j 0) && touching (getD bs i 0) (getD as₁ j 0) (getD bs j 0)
+
+-- the first place with a partner behind it, and its earliest partner
+unfoldable pub pairIn : (ℕ → ℕ → Bool) → List ℕ → Pair
+pairIn t [] = Neither
+pairIn t (i ∷ is) = elim (filter (t i) is) [ [] ↦ pairIn t is | j ∷ js ↦ Both i j ]
+
+-- the nodes of a set at which there are d links
+abbrev pub withLinks : ℕ → List ℕ → ℕ → List ℕ
+withLinks d at nodes = filter (λ v. eqb (howMany (members (getD at v 0))) d) (nodesIn nodes)

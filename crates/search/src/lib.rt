@@ -1,0 +1,143 @@
+// The searches over the links in use, by place: numbers and arrays alone.
+ghost use mathlib.Core.Path.{_≡_};
+ghost use Prim.Native.Nat.{_^_, _<_};
+ghost use lib.Dec.{eqb, leb};
+ghost use lib.ListN.{length};
+ghost use Rattle.bits.specs.Members.{members, howMany};
+ghost use Rattle.reliability.specs.Networks.{connected};
+ghost use Rattle.search.specs.Searches.{pick, nodesIn, placesIn, endsByPlace, Incidence, Bounded, Ended, found, loops, beside, pairIn, withLinks};
+
+pub enum Found {
+    At(usize),
+    Nothing,
+}
+
+pub enum Pair {
+    Both(usize, usize),
+    Neither,
+}
+
+// The first link that joins a node to itself.
+pub fn first_loop<'r>(alive: u64, a: &'r [u8; 64], b: &'r [u8; 64]) -> Found
+    ensures { λ r. ⌜ r ≡ found (loops alive (now (a .entry)) (now (b .entry))) ⌝ }
+{
+    let mut t = alive;
+    while t != 0 {
+        let k = bits::lowest(t);
+        if a[k] == b[k] {
+            return Found::At(k);
+        }
+        t = bits::without_lowest(t);
+    }
+    Found::Nothing
+}
+
+// The places of the links at each node.
+pub fn incidence<'r>(alive: u64, a: &'r [u8; 64], b: &'r [u8; 64]) -> [u64; 32]
+    requires { ⌜ (length (now a) ≡ 64) × (length (now b) ≡ 64) × Bounded alive (now a) (now b) ⌝ }
+    ensures { λ r. ⌜ Incidence r alive (now (a .entry)) (now (b .entry)) ⌝ }
+{
+    let mut at = [0u64; 32];
+    let mut t = alive;
+    while t != 0 {
+        let k = bits::lowest(t);
+        t = bits::without_lowest(t);
+        let x = a[k] as usize;
+        let y = b[k] as usize;
+        let sx = bits::with(at[x], k);
+        at[x] = sx;
+        let sy = bits::with(at[y], k);
+        at[y] = sy;
+    }
+    at
+}
+
+// Whether the links in use connect the nodes: from the lowest node on, each link is followed at most once.
+pub fn connects<'r>(
+    nodes: u64,
+    alive: u64,
+    at: &'r [u64; 32],
+    a: &'r [u8; 64],
+    b: &'r [u8; 64],
+) -> bool
+    requires { ⌜ (0 < nodes) × (nodes < 2 ^ 32) × Incidence (now at) alive (now a) (now b) × Ended nodes alive (now a) (now b) ⌝ }
+    ensures { λ r. ⌜ r ≡ connected (nodesIn nodes) (pick (members alive) (endsByPlace (now (a .entry)) (now (b .entry)))) ⌝ }
+{
+    let first = bits::lowest(nodes);
+    let mut seen = bits::with(0, first);
+    let mut near = at[first];
+    let mut left = alive;
+    while seen != nodes {
+        let todo = bits::meet(near, left);
+        if todo == 0 {
+            return false;
+        }
+        let k = bits::lowest(todo);
+        let x = a[k] as usize;
+        let y = b[k] as usize;
+        seen = bits::with(bits::with(seen, x), y);
+        near = bits::union(near, bits::union(at[x], at[y]));
+        left = bits::without(left, k);
+    }
+    true
+}
+
+// The first link with a partner, and its earliest partner.
+pub fn first_pair<'r>(alive: u64, at: &'r [u64; 32], a: &'r [u8; 64], b: &'r [u8; 64]) -> Pair
+    requires { ⌜ Bounded alive (now a) (now b) × Incidence (now at) alive (now a) (now b) ⌝ }
+    ensures { λ r. ⌜ r ≡ pairIn (beside (now (a .entry)) (now (b .entry))) (placesIn alive) ⌝ }
+{
+    let mut t = alive;
+    while t != 0 {
+        let i = bits::lowest(t);
+        t = bits::without_lowest(t);
+        let partners = bits::meet(bits::meet(at[a[i] as usize], at[b[i] as usize]), t);
+        if partners != 0 {
+            return Pair::Both(i, bits::lowest(partners));
+        }
+    }
+    Pair::Neither
+}
+
+// Whether s has one place at most.
+pub fn at_most_one(s: u64) -> bool
+    ensures { λ r. ⌜ r ≡ leb (howMany (members s)) 1 ⌝ }
+{
+    s == 0 || bits::without_lowest(s) == 0
+}
+
+fn is_one(s: u64) -> bool
+    ensures { λ r. ⌜ r ≡ eqb (howMany (members s)) 1 ⌝ }
+{
+    s != 0 && bits::without_lowest(s) == 0
+}
+
+fn is_two(s: u64) -> bool
+    ensures { λ r. ⌜ r ≡ eqb (howMany (members s)) 2 ⌝ }
+{
+    s != 0 && is_one(bits::without_lowest(s))
+}
+
+// Whether s has d places, one or two.
+fn has_places(s: u64, d: u32) -> bool
+    requires { ⌜ (0 < d) × (d < 3) ⌝ }
+    ensures { λ r. ⌜ r ≡ eqb (howMany (members s)) d ⌝ }
+{
+    if d == 1 { is_one(s) } else { is_two(s) }
+}
+
+// The lowest node with d links, one or two.
+pub fn lowest_with(d: u32, nodes: u64, at: &[u64; 32]) -> Found
+    requires { ⌜ (0 < d) × (d < 3) × (nodes < 2 ^ 32) ⌝ }
+    ensures { λ r. ⌜ r ≡ found (withLinks d (now (at .entry)) nodes) ⌝ }
+{
+    let mut t = nodes;
+    while t != 0 {
+        let v = bits::lowest(t);
+        if has_places(at[v], d) {
+            return Found::At(v);
+        }
+        t = bits::without_lowest(t);
+    }
+    Found::Nothing
+}
