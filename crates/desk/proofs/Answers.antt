@@ -1,17 +1,17 @@
 -- One law for accepted or refused, one for what is accepted, one for an answer read back.
-use Prim.Native.Nat.{ℕ, suc, _+_, _-_, _*_, _/_, _%_, _^_, _≤_, _<_, max}
+use Prim.Native.Nat.{ℕ, suc, _-_, _*_, _^_, _≤_, _<_, max}
 use mathlib.Core.Path.{_≡_, refl, sym, ap, _∙_, subst}
 use mathlib.Core.List.{List}
 use mathlib.Core.Logic.{_⊎_, inl, inr, _↔_}
 use mathlib.Core.Bool.{Bool, true, false, cond, _&&_}
-use native.Mathlib.Nat.{mod-eq-of-lt, div-div-eq-div-mul}
 use native.Mathlib.Omega.{arith}
 use native.Mathlib.Decide.{decLe, decLt}
 use lib.Dec.{leb}
 use lib.IntN.{ℤ, pos, negsuc}
 use lib.Signed.{mag}
-use lib.ListN.{length, length-drop}
+use lib.ListN.{length, drop, length-drop}
 use borrow.Author.Tests.{lt-ltb, le-ltb, le-leb, lt-leb, leb-true, leb-false}
+use Rattle.words.proofs.Laws.{whole32}
 use Rattle.reliability.specs.declared.Figure.{Figure}
 use Rattle.reliability.specs.Networks.{Valid}
 use Rattle.plan.specs.declared.Verdict.{Verdict}
@@ -87,16 +87,11 @@ valid-of plan w = plan-valid plan (accepted-means plan .1 w)
 
 -- ---- an answer read back
 
--- four bytes of a number of 32 bits make it up again
-whole : (x : ℕ) → x < 2 ^ 32 → x % 256 + 256 * (x / 256 % 256) + 65536 * (x / 65536 % 256 + 256 * (x / 16777216 % 256)) ≡ x
-whole x h =
-    let top : x / 16777216 % 256 ≡ x / 16777216 = mod-eq-of-lt (omega arith) in
-    omega (arith, div-div-eq-div-mul x 256 256, div-div-eq-div-mul x 65536 256)
-
 written : (f : Figure) (b : List ℕ) → (f .low < 2 ^ 32) × (f .high < 2 ^ 32) × (f .steps < 2 ^ 32) → Holds (withFigure f b) f
 unfolding lowIn highIn stepsIn finishedIn
 written f b h =
-    record { low = whole (f .low) (h .0); high = whole (f .high) (h .1); steps = whole (f .steps) (h .2); finished = whole (cond (f .finished) 1 0) (flag (f .finished)) }
+    let later : ℕ → List ℕ = λ k. drop (4 * k) (withFigure f b) in
+    record { low = whole32 (f .low) (later 1) (h .0); high = whole32 (f .high) (later 2) (h .1); steps = whole32 (f .steps) (later 3) (h .2); finished = whole32 (cond (f .finished) 1 0) (later 4) (flag (f .finished)) }
   where
     flag : (t : Bool) → cond t 1 0 < 2 ^ 32
     flag true = omega arith

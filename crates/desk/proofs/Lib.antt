@@ -1,4 +1,3 @@
-pub mod Words
 pub mod Twos
 pub mod Calls
 pub mod Answers

@@ -8,11 +8,12 @@ use lib.Dec.{ltb}
 use lib.IntN.{ℤ, pos, _-ℤ_}
 use lib.ListN.{length, drop}
 use lib.Signed.{_≤ℤ_}
+use Rattle.words.specs.Words.{word32}
 use Rattle.reliability.specs.declared.Figure.{Figure}
 use Rattle.reliability.specs.declared.Difference.{Difference}
 use Rattle.plan.specs.declared.Verdict.{Verdict}
 use Rattle.plan.specs.declared.Verdict.the-variants.{Accepted, Refused}
-use Rattle.plan.specs.Plans.{word32, returned}
+use Rattle.plan.specs.Plans.{returned}
 use Rattle.desk.specs.Outcomes.{Outcome}
 
 -- ---- the four numbers in a buffer

@@ -1,10 +1,11 @@
 -- The four calls: what each returns, and what it leaves in the answer buffer.
-use Prim.Native.Nat.{ℕ, suc, _+_, _-_, _/_, _%_}
-use mathlib.Core.List.{List, [], _∷_, _++_}
+use Prim.Native.Nat.{ℕ, _+_, _-_}
+use mathlib.Core.List.{List, _++_}
 use mathlib.Core.Bool.{Bool, true, false, cond}
 use lib.Dec.{leb, ltb}
 use lib.IntN.{ℤ, pos, negsuc}
 use lib.ListN.{length, drop}
+use Rattle.words.specs.Words.{le4}
 use Rattle.reliability.specs.declared.Figure.{Figure}
 use Rattle.reliability.specs.declared.Difference.{Difference}
 use Rattle.reliability.specs.Rule.{figure}
@@ -13,10 +14,6 @@ use Rattle.plan.specs.declared.Cause.the-variants.{Limit, Buffer, Place}
 use Rattle.plan.specs.declared.Verdict.{Verdict}
 use Rattle.plan.specs.declared.Verdict.the-variants.{Accepted, Refused}
 use Rattle.plan.specs.Plans.{sizeM, verdict, also, returned, planOf}
-
--- 32 bits, little-endian
-abbrev pub le4 : ℕ → List ℕ
-le4 x = (x % 256) ∷ (x / 256 % 256) ∷ (x / 65536 % 256) ∷ (x / 16777216 % 256) ∷ []
 
 -- two's complement in 32 bits
 abbrev pub twos : ℤ → ℕ

@@ -2,32 +2,19 @@
 use plan::Cause;
 use plan::Verdict;
 ghost use mathlib.Core.Path.{_≡_};
-ghost use mathlib.Core.List.{_++_};
-ghost use Prim.Native.Nat.{_+_, _≤_, _<_};
-ghost use lib.ListN.{length, take, drop};
-ghost use Rattle.plan.specs.Plans.{sizeM};
-ghost use Rattle.desk.specs.Outcomes.{le4, twos, answered, asked, placed, figureVerdict, importanceVerdict, checkOutcome, figureOutcome, importanceOutcome, differenceOutcome};
-
-// x, little-endian, in the four bytes from at on.
-fn put_u32(b: &mut [u8], at: usize, x: u32)
-    requires { ⌜ at + 4 ≤ length (now b) ⌝ }
-    ensures { λ _. ⌜ now (b .exit) ≡ take at (now (b .entry)) ++ le4 x ++ drop (at + 4) (now (b .entry)) ⌝ }
-{
-    b[at] = (x % 256) as u8;
-    b[at + 1] = (x / 256 % 256) as u8;
-    b[at + 2] = (x / 65536 % 256) as u8;
-    b[at + 3] = (x / 16777216 % 256) as u8;
-}
+ghost use Prim.Native.Nat.{_≤_};
+ghost use lib.ListN.{length};
+ghost use Rattle.desk.specs.Outcomes.{twos, answered, asked, placed, figureVerdict, importanceVerdict, checkOutcome, figureOutcome, importanceOutcome, differenceOutcome};
 
 // Four numbers in the first sixteen bytes.
 fn put_answer(b: &mut [u8], low: u32, high: u32, steps: u32, finished: bool)
     requires { ⌜ 16 ≤ length (now b) ⌝ }
     ensures { λ _. ⌜ now (b .exit) ≡ answered low high steps finished (now (b .entry)) ⌝ }
 {
-    put_u32(b, 0, low);
-    put_u32(b, 4, high);
-    put_u32(b, 8, steps);
-    put_u32(b, 12, finished as u32);
+    words::put_word32(b, 0, low);
+    words::put_word32(b, 4, high);
+    words::put_word32(b, 8, steps);
+    words::put_word32(b, 12, finished as u32);
 }
 
 // Two's complement in 32 bits.

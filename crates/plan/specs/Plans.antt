@@ -4,7 +4,8 @@ use mathlib.Core.Path.{_≡_}
 use mathlib.Core.List.{List, [], _∷_}
 use mathlib.Core.Bool.{Bool, true, false, not, _&&_, _||_}
 use lib.Dec.{eqb, leb, ltb}
-use lib.ListN.{length, getD}
+use lib.ListN.{length}
+use Rattle.words.specs.Words.{byte, word16, word32}
 use Rattle.rounding.specs.Rounding.{S}
 use Rattle.ratings.specs.Ratings.{T}
 use Rattle.reliability.specs.declared.Link.{Link}
@@ -17,16 +18,7 @@ use Rattle.plan.specs.declared.Verdict.the-variants.{Accepted, Refused}
 use Rattle.plan.specs.declared.Rated.{Rated}
 use Rattle.plan.specs.declared.Rated.the-variants.{Units, Unrated}
 
--- ---- numbers in the file, little-endian
-
-abbrev pub byte : List ℕ → ℕ → ℕ
-byte b i = getD b i 0
-
-abbrev pub word16 : List ℕ → ℕ → ℕ
-word16 b i = byte b i + 256 * byte b (i + 1)
-
-abbrev pub word32 : List ℕ → ℕ → ℕ
-word32 b i = word16 b i + 65536 * word16 b (i + 2)
+-- ---- what the file holds
 
 -- n and m, the sizes
 abbrev pub sizeN : List ℕ → ℕ

@@ -4,7 +4,8 @@ use reliability::Link;
 ghost use mathlib.Core.Path.{_≡_};
 ghost use Prim.Native.Nat.{_+_, _*_, _≤_, _<_};
 ghost use lib.ListN.{length};
-ghost use Rattle.plan.specs.Plans.{byte, word16, word32, sizeN, sizeM, firstEnd, secondEnd, fileValue, rated, unitsOf, linkVerdict, linksVerdict, verdict, number, namedLink, returned, linkIn, planOf};
+ghost use Rattle.words.specs.Words.{byte, word16, word32};
+ghost use Rattle.plan.specs.Plans.{sizeN, sizeM, firstEnd, secondEnd, fileValue, rated, unitsOf, linkVerdict, linksVerdict, verdict, number, namedLink, returned, linkIn, planOf};
 ghost use Rattle.network.specs.Places.{networkOf, Built};
 
 // S.
@@ -55,32 +56,6 @@ struct Entry {
     pub value: u32,
 }
 
-// The number in one, two and four bytes of a plan, the lowest byte first.
-fn byte(s: &[u8], at: usize) -> u8
-    requires { ⌜ at + 1 ≤ length (now s) ⌝ }
-    ensures { λ r. ⌜ r ≡ byte (now (s .entry)) at ⌝ }
-{
-    s[at]
-}
-
-fn word16(s: &[u8], at: usize) -> u16
-    requires { ⌜ at + 2 ≤ length (now s) ⌝ }
-    ensures { λ r. ⌜ r ≡ word16 (now (s .entry)) at ⌝ }
-{
-    let low = s[at] as u16;
-    let high = s[at + 1] as u16;
-    low + 256 * high
-}
-
-fn word32(s: &[u8], at: usize) -> u32
-    requires { ⌜ at + 4 ≤ length (now s) ⌝ }
-    ensures { λ r. ⌜ r ≡ word32 (now (s .entry)) at ⌝ }
-{
-    let low = word16(s, at) as u32;
-    let high = word16(s, at + 2) as u32;
-    low + 65_536 * high
-}
-
 impl<'a> Reader<'a> {
     // At the start.
     pub fn new(plan: &'a [u8]) -> Reader<'a>
@@ -105,21 +80,21 @@ impl<'a> Reader<'a> {
         requires { ⌜ self .at + 1 ≤ length (now (self .plan)) ⌝ }
         ensures { λ r. ⌜ r ≡ byte (now (self .entry .plan)) (self .entry .at) ⌝ }
     {
-        byte(self.plan, self.at)
+        words::byte(self.plan, self.at)
     }
 
     pub fn word16(self) -> u16
         requires { ⌜ self .at + 2 ≤ length (now (self .plan)) ⌝ }
         ensures { λ r. ⌜ r ≡ word16 (now (self .entry .plan)) (self .entry .at) ⌝ }
     {
-        word16(self.plan, self.at)
+        words::word16(self.plan, self.at)
     }
 
     pub fn word32(self) -> u32
         requires { ⌜ self .at + 4 ≤ length (now (self .plan)) ⌝ }
         ensures { λ r. ⌜ r ≡ word32 (now (self .entry .plan)) (self .entry .at) ⌝ }
     {
-        word32(self.plan, self.at)
+        words::word32(self.plan, self.at)
     }
 }
 

@@ -3,7 +3,7 @@ use native.Mathlib.Omega.{arith}
 use mathlib.Core.Path.{_≡_, ap, _∙_}
 use Prim.Native.Nat.{_+_, _*_}
 use denote.Ref.{now}
-use Rattle.plan.specs.Plans.{byte, word32}
+use Rattle.words.specs.Words.{byte, word32}
 use Rattle.plan.proofs.entry_at.Statement.{statement}
 use Rattle.plan.proofs.entry_at.Tie as tie
 

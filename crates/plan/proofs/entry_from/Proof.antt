@@ -35,7 +35,7 @@ use denote.Triple.Spec.{Meets, tripleOf}
 use denote.Triple.Table.{entered, cited}
 use denote.Triple.Walked.{says, needs, Stays, stay-none, stay-none-slice, walkOf, goes-none, goes-none-slice, Walks, ends-at, walked, walk-meets}
 use denote.Exit.{yes}
-use Rattle.plan.specs.Plans.{byte, word32}
+use Rattle.words.specs.Words.{byte, word32}
 use Rattle.plan.specs.declared.Entry.{Entry}
 use Rattle.plan.proofs.Calling.{New, Advanced, Read, typed, calls-new, calls-advanced, calls-read}
 use Rattle.plan.proofs.Entry as S

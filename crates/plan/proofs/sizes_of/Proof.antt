@@ -34,7 +34,7 @@ use denote.Triple.Spec.{Meets, tripleOf}
 use denote.Triple.Table.{entered, cited}
 use denote.Triple.Walked.{says, needs, Stays, stay-none-slice, walkOf, goes-none-slice, Walks, ends-at, walked, walk-meets}
 use denote.Exit.{yes}
-use Rattle.plan.specs.Plans.{word16}
+use Rattle.words.specs.Words.{word16}
 use Rattle.plan.specs.declared.Sizes.{Sizes}
 use Rattle.plan.proofs.Calling.{New, Advanced, Read, typed, calls-new, calls-advanced, calls-read}
 use Rattle.plan.proofs.Sizes as S

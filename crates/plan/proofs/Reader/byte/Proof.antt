@@ -2,11 +2,11 @@ use mir.Syntax.{w8}
 use contract.Running.{givenOf, tables, tablesOf}
 use denote.Triple.Spec.{tripleOf}
 use denote.Triple.Table.{entered, cited}
-use Rattle.plan.specs.Plans.{byte}
+use Rattle.words.specs.Words.{byte}
 use Rattle.plan.proofs.Reading.{Callee, reads}
-use Rattle.plan.proofs.byte.Symbol as callee
-use Rattle.plan.proofs.byte.Symbol.{name as #callee}
-use Rattle.plan.proofs.byte.Met as callee-thm
+use Rattle.words.proofs.byte.Symbol as callee
+use Rattle.words.proofs.byte.Symbol.{name as #callee}
+use Rattle.words.proofs.byte.Met as callee-thm
 use Rattle.plan.proofs.Reader.byte.Key.{name as #this}
 use Rattle.plan.proofs.Reader.byte as this
 use Rattle.plan.proofs.Reader.byte.Statement as stated
@@ -18,4 +18,4 @@ byte-spec 𝓤 H 𝓜 𝓖 𝓡 =
     entered 𝓤 H (tripleOf 𝓤 H (𝓖 .A) this.signature (this.spec 𝓤 H (𝓖 .A) (𝓜 .mem) (𝓡 .run)))
     (tables 𝓤 H 𝓜 𝓡 code.env .C) (tables 𝓤 H 𝓜 𝓡 code.env .Λ) #this code.function (code.unfolded 𝓤 H 𝓜 𝓡)
     (reads w8 1 byte 𝓤 H (𝓖 .A) (givenOf 𝓤 H 𝓜 𝓖) (tablesOf 𝓤 H 𝓜 (tables 𝓤 H 𝓜 𝓡 code.env)) #callee
-    (cited 𝓤 H (Callee w8 1 byte 𝓤 H (𝓖 .A)) 𝓜 𝓡 code.env #callee callee.routine code.calls-plan·byte (callee-thm.met 𝓤 H 𝓜 𝓖 𝓡)))
+    (cited 𝓤 H (Callee w8 1 byte 𝓤 H (𝓖 .A)) 𝓜 𝓡 code.env #callee callee.routine code.calls-words·byte (callee-thm.met 𝓤 H 𝓜 𝓖 𝓡)))

@@ -1,9 +1,9 @@
 use native.Mathlib.Omega.{arith}
 use lib.ListN.{length-set}
-use Rattle.desk.proofs.Words.{stores}
+use Rattle.words.proofs.Laws.{stores}
 use borrow.Author.Needs.{needs}
-use Rattle.desk.proofs.put_u32.Statement.{statement}
-use Rattle.desk.proofs.put_u32.Tie as tie
+use Rattle.words.proofs.put_word32.Statement.{statement}
+use Rattle.words.proofs.put_word32.Tie as tie
 
 cast-b : tie.Need-cast-b
 cast-b c = search needs
@@ -44,8 +44,8 @@ same-length c = search needs
 returns : tie.Need-returns
 returns c = stores (c .args .b .now) (c .args .at) _ _ _ _ (c .pre)
 
-pub put-u32-spec : {M : Type 1} → statement M
-put-u32-spec =
+pub put-word32-spec : {M : Type 1} → statement M
+put-word32-spec =
     tie.close
     (tie.spec
     cast-b

@@ -1,8 +1,8 @@
 use borrow.Author.Needs.{needs}
 use native.Mathlib.Omega.{arith}
 use Prim.Native.Nat.{_+_}
-use Rattle.plan.proofs.word16.Statement.{statement}
-use Rattle.plan.proofs.word16.Tie as tie
+use Rattle.words.proofs.word16.Statement.{statement}
+use Rattle.words.proofs.word16.Tie as tie
 
 shared-slice-read-low : tie.Need-shared-slice-read-low
 shared-slice-read-low c = search needs
