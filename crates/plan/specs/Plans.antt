@@ -12,7 +12,7 @@ use Rattle.reliability.specs.declared.Link.{Link}
 use Rattle.reliability.specs.Networks.{Network, linked}
 use Rattle.network.specs.Places.{from}
 use Rattle.plan.specs.declared.Cause.{Cause}
-use Rattle.plan.specs.declared.Cause.the-variants.{Limit, Buffer, Short, Nodes, Links, Length, End, Value, Place}
+use Rattle.plan.specs.declared.Cause.the-variants.{Short, Nodes, Links, Length, End, Value}
 use Rattle.plan.specs.declared.Verdict.{Verdict}
 use Rattle.plan.specs.declared.Verdict.the-variants.{Accepted, Refused}
 use Rattle.plan.specs.declared.Rated.{Rated}
@@ -111,9 +111,6 @@ number Links = 3
 number Length = 4
 number (End i) = 5
 number (Value i) = 6
-number Limit = 7
-number Place = 8
-number Buffer = 9
 
 -- the link that a cause names, or 0
 abbrev pub namedLink : Cause → ℕ
@@ -123,9 +120,6 @@ namedLink Links = 0
 namedLink Length = 0
 namedLink (End i) = i
 namedLink (Value i) = i
-namedLink Limit = 0
-namedLink Place = 0
-namedLink Buffer = 0
 
 -- the column Returned
 abbrev pub returned : Verdict → ℕ

@@ -14,17 +14,14 @@ const UNITS: u32 = 1_000_000_000;
 // A value from here on is a length.
 const LENGTHS: u32 = 2_147_483_648;
 
-// Why a call is refused.
+// Why a plan is refused.
 pub enum Cause {
-    Limit,
-    Buffer,
     Short,
     Nodes,
     Links,
     Length,
     End(u16),
     Value(u16),
-    Place,
 }
 
 pub enum Verdict {
@@ -220,9 +217,6 @@ pub fn number_of(c: Cause) -> u8
         Cause::Length => 4,
         Cause::End(_) => 5,
         Cause::Value(_) => 6,
-        Cause::Limit => 7,
-        Cause::Place => 8,
-        Cause::Buffer => 9,
     }
 }
 
@@ -237,9 +231,6 @@ pub fn named_link(c: Cause) -> u16
         Cause::Length => 0,
         Cause::End(i) => i,
         Cause::Value(i) => i,
-        Cause::Limit => 0,
-        Cause::Place => 0,
-        Cause::Buffer => 0,
     }
 }
 

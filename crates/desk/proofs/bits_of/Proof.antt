@@ -1,4 +1,4 @@
-use Rattle.desk.proofs.Twos.{read-wide, sum-fits, lifted-fits, lifted-is, kept-fits, kept-is}
+use Rattle.desk.proofs.TwosComplement.{read-wide, sum-fits, lifted-fits, lifted-is, kept-fits, kept-is}
 use Rattle.desk.proofs.bits_of.Statement.{statement}
 use Rattle.desk.proofs.bits_of.Tie as tie
 
