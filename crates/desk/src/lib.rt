@@ -117,7 +117,7 @@ fn place_verdict(plan: &[u8], place: u64) -> CallVerdict
     requires { ⌜ 4 ≤ length (now plan) ⌝ }
     ensures { λ r. ⌜ r ≡ placed (now (plan .entry)) place ⌝ }
 {
-    let m = plan::sizes_of(plan).m as u64;
+    let m = reader::sizes_of(plan).m as u64;
     if place < m {
         CallVerdict::Accepted
     } else {

@@ -103,7 +103,7 @@ fn put_links(text: &mut [u8], at: usize, plan: &[u8]) -> usize
     requires { ⌜ (verdict (now plan) ≡ Verdict.Accepted) × (at + length (linkLines (now plan) 0 (sizeM (now plan))) ≤ length (now text)) ⌝ }
     ensures { λ r. ⌜ Puts (now (text .entry)) at (linkLines (now (plan .entry)) 0 (sizeM (now (plan .entry)))) (now (text .exit)) r ⌝ }
 {
-    let m = plan::sizes_of(plan).m as usize;
+    let m = reader::sizes_of(plan).m as usize;
     let mut next = at;
     let mut i = 0;
     while i < m {
@@ -117,7 +117,7 @@ fn put_plan(text: &mut [u8], plan: &[u8]) -> usize
     requires { ⌜ (verdict (now plan) ≡ Verdict.Accepted) × (length (listingBy Verdict.Accepted (now plan)) ≤ length (now text)) ⌝ }
     ensures { λ r. ⌜ Puts (now (text .entry)) 0 (listingBy Verdict.Accepted (now (plan .entry))) (now (text .exit)) r ⌝ }
 {
-    let s = plan::sizes_of(plan);
+    let s = reader::sizes_of(plan);
     let f = factoring::work(plan::network_of(plan), LIMIT);
     let first = put_sizes(text, s.n, s.m);
     let second = put_figure(text, first, f);

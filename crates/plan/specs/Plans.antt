@@ -5,7 +5,7 @@ use mathlib.Core.List.{List, [], _∷_}
 use mathlib.Core.Bool.{Bool, true, false, not, _&&_, _||_}
 use lib.Dec.{eqb, leb, ltb}
 use lib.ListN.{length}
-use Rattle.words.specs.Words.{byte, word16, word32}
+pub use Rattle.reader.specs.Layout.{sizeN, sizeM, firstEnd, secondEnd, fileValue}
 use Rattle.rounding.specs.Rounding.{S}
 use Rattle.ratings.specs.Ratings.{T}
 use Rattle.reliability.specs.declared.Link.{Link}
@@ -18,24 +18,7 @@ use Rattle.plan.specs.declared.Verdict.the-variants.{Accepted, Refused}
 use Rattle.plan.specs.declared.Rated.{Rated}
 use Rattle.plan.specs.declared.Rated.the-variants.{Units, Unrated}
 
--- ---- what the file holds
-
--- n and m, the sizes
-abbrev pub sizeN : List ℕ → ℕ
-sizeN b = word16 b 0
-
-abbrev pub sizeM : List ℕ → ℕ
-sizeM b = word16 b 2
-
--- the two ends of link i, and its value as it stands in the file
-abbrev pub firstEnd : List ℕ → ℕ → ℕ
-firstEnd b i = byte b (4 + 2 * i)
-
-abbrev pub secondEnd : List ℕ → ℕ → ℕ
-secondEnd b i = byte b (5 + 2 * i)
-
-abbrev pub fileValue : List ℕ → ℕ → ℕ
-fileValue b i = word32 b (4 + 2 * sizeM b + 4 * i)
+-- ---- what the file's values stand for
 
 -- a value up to S is in units; 2,147,483,648 + k, k up to 511, is a length of k hundred metres and stands for T[k]
 abbrev pub ratedBy : (inUnits isLength : Bool) → ℕ → Rated

@@ -1,11 +1,11 @@
-// The plan file: sizes, ends and values in little-endian bytes, the causes of refusal, and the network of an accepted plan.
+// The plan file: what its values stand for, the causes of refusal, and the network of an accepted plan.
 use network::Network;
 use reliability::Link;
 ghost use mathlib.Core.Path.{_≡_};
 ghost use Prim.Native.Nat.{_+_, _*_, _≤_, _<_};
 ghost use lib.ListN.{length};
-ghost use Rattle.words.specs.Words.{byte, word16, word32};
-ghost use Rattle.plan.specs.Plans.{sizeN, sizeM, firstEnd, secondEnd, fileValue, rated, unitsOf, linkVerdict, linksVerdict, verdict, number, namedLink, returned, linkIn, planOf};
+ghost use Rattle.reader.specs.Layout.{sizeM};
+ghost use Rattle.plan.specs.Plans.{rated, unitsOf, linkVerdict, linksVerdict, verdict, number, namedLink, returned, linkIn, planOf};
 ghost use Rattle.network.specs.Places.{networkOf, Built};
 
 // S.
@@ -33,100 +33,6 @@ pub enum Verdict {
 pub enum Rated {
     Units(u32),
     Unrated,
-}
-
-pub struct Sizes {
-    pub n: u16,
-    pub m: u16,
-}
-
-// The lent plan and the position of what is read next.
-pub struct Reader<'a> {
-    pub plan: &'a [u8],
-    pub at: usize,
-}
-
-// A link as it stands in the file.
-struct Entry {
-    pub a: u8,
-    pub b: u8,
-    pub value: u32,
-}
-
-impl<'a> Reader<'a> {
-    // At the start.
-    pub fn new(plan: &'a [u8]) -> Reader<'a>
-        ensures { λ r. ⌜ (r .plan ≡ plan .entry) × (r .at ≡ 0) ⌝ }
-    {
-        Reader { plan, at: 0 }
-    }
-
-    // Moved on by k bytes.
-    pub fn advanced(self, k: usize) -> Reader<'a>
-        requires { ⌜ self .at + k ≤ length (now (self .plan)) ⌝ }
-        ensures { λ r. ⌜ (r .plan ≡ self .entry .plan) × (r .at ≡ self .entry .at + k) ⌝ }
-    {
-        Reader {
-            plan: self.plan,
-            at: self.at + k,
-        }
-    }
-
-    // What stands at its position.
-    pub fn byte(self) -> u8
-        requires { ⌜ self .at + 1 ≤ length (now (self .plan)) ⌝ }
-        ensures { λ r. ⌜ r ≡ byte (now (self .entry .plan)) (self .entry .at) ⌝ }
-    {
-        words::byte(self.plan, self.at)
-    }
-
-    pub fn word16(self) -> u16
-        requires { ⌜ self .at + 2 ≤ length (now (self .plan)) ⌝ }
-        ensures { λ r. ⌜ r ≡ word16 (now (self .entry .plan)) (self .entry .at) ⌝ }
-    {
-        words::word16(self.plan, self.at)
-    }
-
-    pub fn word32(self) -> u32
-        requires { ⌜ self .at + 4 ≤ length (now (self .plan)) ⌝ }
-        ensures { λ r. ⌜ r ≡ word32 (now (self .entry .plan)) (self .entry .at) ⌝ }
-    {
-        words::word32(self.plan, self.at)
-    }
-}
-
-// n and m.
-pub fn sizes_of(plan: &[u8]) -> Sizes
-    requires { ⌜ 4 ≤ length (now plan) ⌝ }
-    ensures { λ r. ⌜ (r .n ≡ sizeN (now (plan .entry))) × (r .m ≡ sizeM (now (plan .entry))) ⌝ }
-{
-    let r = Reader::new(plan);
-    let n = r.word16();
-    let m = r.advanced(2).word16();
-    Sizes { n, m }
-}
-
-// The entry whose ends and value stand at two positions.
-fn entry_from(plan: &[u8], ends: usize, value: usize) -> Entry
-    requires { ⌜ (ends + 2 ≤ length (now plan)) × (value + 4 ≤ length (now plan)) ⌝ }
-    ensures { λ r. ⌜ (r .a ≡ byte (now (plan .entry)) ends) × (r .b ≡ byte (now (plan .entry)) (ends + 1)) × (r .value ≡ word32 (now (plan .entry)) value) ⌝ }
-{
-    let start = Reader::new(plan);
-    let first = start.advanced(ends);
-    let second = first.advanced(1);
-    let last = start.advanced(value);
-    let a = first.byte();
-    let b = second.byte();
-    let v = last.word32();
-    Entry { a, b, value: v }
-}
-
-fn entry_at(plan: &[u8], i: usize) -> Entry
-    requires { ⌜ (i < sizeM (now plan)) × (length (now plan) ≡ 4 + 6 * sizeM (now plan)) ⌝ }
-    ensures { λ r. ⌜ (r .a ≡ firstEnd (now (plan .entry)) i) × (r .b ≡ secondEnd (now (plan .entry)) i) × (r .value ≡ fileValue (now (plan .entry)) i) ⌝ }
-{
-    let m = sizes_of(plan).m as usize;
-    entry_from(plan, 4 + 2 * i, 4 + 2 * m + 4 * i)
 }
 
 fn stands_for(w: u32) -> Rated
@@ -160,8 +66,8 @@ fn link_verdict(plan: &[u8], i: usize) -> Verdict
     requires { ⌜ (i < sizeM (now plan)) × (length (now plan) ≡ 4 + 6 * sizeM (now plan)) ⌝ }
     ensures { λ r. ⌜ r ≡ linkVerdict (now (plan .entry)) i ⌝ }
 {
-    let n = sizes_of(plan).n;
-    let e = entry_at(plan, i);
+    let n = reader::sizes_of(plan).n;
+    let e = reader::entry_at(plan, i);
     if n <= (e.a as u16) || n <= (e.b as u16) {
         return Verdict::Refused(Cause::End(i as u16));
     }
@@ -175,7 +81,7 @@ fn links_verdict(plan: &[u8]) -> Verdict
     requires { ⌜ length (now plan) ≡ 4 + 6 * sizeM (now plan) ⌝ }
     ensures { λ r. ⌜ r ≡ linksVerdict (now (plan .entry)) 0 (sizeM (now (plan .entry))) ⌝ }
 {
-    let m = sizes_of(plan).m as usize;
+    let m = reader::sizes_of(plan).m as usize;
     let mut i = 0;
     while i < m {
         if let Verdict::Refused(c) = link_verdict(plan, i) {
@@ -193,7 +99,7 @@ pub fn verdict_of(plan: &[u8]) -> Verdict
     if plan.len() < 4 {
         return Verdict::Refused(Cause::Short);
     }
-    let s = sizes_of(plan);
+    let s = reader::sizes_of(plan);
     if s.n == 0 || 32 < s.n {
         return Verdict::Refused(Cause::Nodes);
     }
@@ -249,7 +155,7 @@ pub fn link_at(plan: &[u8], i: usize) -> Link
     requires { ⌜ (verdict (now plan) ≡ Verdict.Accepted) × (i < sizeM (now plan)) ⌝ }
     ensures { λ r. ⌜ r ≡ linkIn (now (plan .entry)) i ⌝ }
 {
-    let e = entry_at(plan, i);
+    let e = reader::entry_at(plan, i);
     let value = units_of(stands_for(e.value));
     Link {
         a: e.a,
@@ -264,7 +170,7 @@ pub fn network_of(plan: &[u8]) -> Network
     requires { ⌜ verdict (now plan) ≡ Verdict.Accepted ⌝ }
     ensures { λ r. ⌜ (networkOf r ≡ planOf (now (plan .entry))) × Built r (sizeM (now (plan .entry))) ⌝ }
 {
-    let s = sizes_of(plan);
+    let s = reader::sizes_of(plan);
     let m = s.m as usize;
     let mut net = Network::new(s.n as u32);
     let mut i = 0;

@@ -36,12 +36,12 @@ use denote.Triple.Call.{calls-at}
 use denote.Triple.Spec.{tripleOf}
 use denote.Triple.Walked.{says}
 use denote.Triple.Clauses.{closing, ensured, lasts}
-use Rattle.plan.specs.declared.Reader.{Reader}
-use Rattle.plan.proofs.Reader as T
-use Rattle.plan.proofs.Reader.Laws as T′
-use Rattle.plan.proofs.Reader.new as new
-use Rattle.plan.proofs.Reader.advanced as advanced
-use Rattle.plan.proofs.Reading.{method, method-says}
+use Rattle.reader.specs.declared.Reader.{Reader}
+use Rattle.reader.proofs.Reader as T
+use Rattle.reader.proofs.Reader.Laws as T′
+use Rattle.reader.proofs.Reader.new as new
+use Rattle.reader.proofs.Reader.advanced as advanced
+use Rattle.reader.proofs.Reading.{method, method-says}
 
 -- the reader's type, over the signature's lifetimes
 abbrev B : Lfts 1 → RattleType

@@ -34,13 +34,13 @@ use denote.Triple.Spec.{Meets, tripleOf}
 use denote.Triple.Table.{entered}
 use denote.Triple.Walked.{says, Stays, stay-none-slice, walkOf, goes-none-slice, Walks, ends-at, walked, walk-meets}
 use denote.Exit.{yes}
-use Rattle.plan.specs.declared.Reader.{Reader}
-use Rattle.plan.proofs.Reader as T
-use Rattle.plan.proofs.Reader.Laws as T′
-use Rattle.plan.proofs.Reader.new.Key.{name as #this}
-use Rattle.plan.proofs.Reader.new as this
-use Rattle.plan.proofs.Reader.new.Statement as stated
-use Rattle.plan.proofs.Reader.new.Code as code
+use Rattle.reader.specs.declared.Reader.{Reader}
+use Rattle.reader.proofs.Reader as T
+use Rattle.reader.proofs.Reader.Laws as T′
+use Rattle.reader.proofs.Reader.new.Key.{name as #this}
+use Rattle.reader.proofs.Reader.new as this
+use Rattle.reader.proofs.Reader.new.Statement as stated
+use Rattle.reader.proofs.Reader.new.Code as code
 
 abbrev stayed : Stays (this.ended .signature .params) (this.ended .kept)
 stayed = (stay-none-slice (0 ∷ []) tt (plain (λ _. u8)) yes, tt)

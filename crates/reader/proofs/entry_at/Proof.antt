@@ -4,8 +4,8 @@ use mathlib.Core.Path.{_≡_, ap, _∙_}
 use Prim.Native.Nat.{_+_, _*_}
 use denote.Ref.{now}
 use Rattle.words.specs.Words.{byte, word32}
-use Rattle.plan.proofs.entry_at.Statement.{statement}
-use Rattle.plan.proofs.entry_at.Tie as tie
+use Rattle.reader.proofs.entry_at.Statement.{statement}
+use Rattle.reader.proofs.entry_at.Tie as tie
 
 sizes-of-requires : tie.Need-sizes-of-requires
 sizes-of-requires c κs = search needs

@@ -3,14 +3,14 @@ use contract.Running.{givenOf, tables, tablesOf}
 use denote.Triple.Spec.{tripleOf}
 use denote.Triple.Table.{entered, cited}
 use Rattle.words.specs.Words.{word32}
-use Rattle.plan.proofs.Reading.{Callee, reads}
+use Rattle.reader.proofs.Reading.{Callee, reads}
 use Rattle.words.proofs.word32.Symbol as callee
 use Rattle.words.proofs.word32.Symbol.{name as #callee}
 use Rattle.words.proofs.word32.Met as callee-thm
-use Rattle.plan.proofs.Reader.word32.Key.{name as #this}
-use Rattle.plan.proofs.Reader.word32 as this
-use Rattle.plan.proofs.Reader.word32.Statement as stated
-use Rattle.plan.proofs.Reader.word32.Code as code
+use Rattle.reader.proofs.Reader.word32.Key.{name as #this}
+use Rattle.reader.proofs.Reader.word32 as this
+use Rattle.reader.proofs.Reader.word32.Statement as stated
+use Rattle.reader.proofs.Reader.word32.Code as code
 
 pub word32-spec : {M : Type 1} → stated.statement M
 unfolding code.routine tablesOf

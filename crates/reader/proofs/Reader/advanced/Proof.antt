@@ -36,13 +36,13 @@ use denote.Triple.Spec.{Meets, tripleOf}
 use denote.Triple.Table.{entered}
 use denote.Triple.Walked.{says, needs, Stays, stay-none, walkOf, goes-none, Walks, ends-at, walked, walk-meets}
 use denote.Exit.{yes}
-use Rattle.plan.specs.declared.Reader.{Reader}
-use Rattle.plan.proofs.Reader as T
-use Rattle.plan.proofs.Reader.Laws as T′
-use Rattle.plan.proofs.Reader.advanced.Key.{name as #this}
-use Rattle.plan.proofs.Reader.advanced as this
-use Rattle.plan.proofs.Reader.advanced.Statement as stated
-use Rattle.plan.proofs.Reader.advanced.Code as code
+use Rattle.reader.specs.declared.Reader.{Reader}
+use Rattle.reader.proofs.Reader as T
+use Rattle.reader.proofs.Reader.Laws as T′
+use Rattle.reader.proofs.Reader.advanced.Key.{name as #this}
+use Rattle.reader.proofs.Reader.advanced as this
+use Rattle.reader.proofs.Reader.advanced.Statement as stated
+use Rattle.reader.proofs.Reader.advanced.Code as code
 
 -- the reader's type, over the signature's lifetimes
 abbrev B : Lfts 1 → RattleType

@@ -35,23 +35,23 @@ use denote.Triple.Table.{entered, cited}
 use denote.Triple.Walked.{says, needs, Stays, stay-none-slice, walkOf, goes-none-slice, Walks, ends-at, walked, walk-meets}
 use denote.Exit.{yes}
 use Rattle.words.specs.Words.{word16}
-use Rattle.plan.specs.declared.Sizes.{Sizes}
-use Rattle.plan.proofs.Calling.{New, Advanced, Read, typed, calls-new, calls-advanced, calls-read}
-use Rattle.plan.proofs.Sizes as S
-use Rattle.plan.proofs.Sizes.Laws as S′
-use Rattle.plan.proofs.Reader.new.Symbol as new
-use Rattle.plan.proofs.Reader.new.Symbol.{name as #new}
-use Rattle.plan.proofs.Reader.new.Met as new-thm
-use Rattle.plan.proofs.Reader.advanced.Symbol as advanced
-use Rattle.plan.proofs.Reader.advanced.Symbol.{name as #advanced}
-use Rattle.plan.proofs.Reader.advanced.Met as advanced-thm
-use Rattle.plan.proofs.Reader.word16.Symbol as read
-use Rattle.plan.proofs.Reader.word16.Symbol.{name as #read}
-use Rattle.plan.proofs.Reader.word16.Met as read-thm
-use Rattle.plan.proofs.sizes_of.Key.{name as #this}
-use Rattle.plan.proofs.sizes_of as this
-use Rattle.plan.proofs.sizes_of.Statement as stated
-use Rattle.plan.proofs.sizes_of.Code as code
+use Rattle.reader.specs.declared.Sizes.{Sizes}
+use Rattle.reader.proofs.Calling.{New, Advanced, Read, typed, calls-new, calls-advanced, calls-read}
+use Rattle.reader.proofs.Sizes as S
+use Rattle.reader.proofs.Sizes.Laws as S′
+use Rattle.reader.proofs.Reader.new.Symbol as new
+use Rattle.reader.proofs.Reader.new.Symbol.{name as #new}
+use Rattle.reader.proofs.Reader.new.Met as new-thm
+use Rattle.reader.proofs.Reader.advanced.Symbol as advanced
+use Rattle.reader.proofs.Reader.advanced.Symbol.{name as #advanced}
+use Rattle.reader.proofs.Reader.advanced.Met as advanced-thm
+use Rattle.reader.proofs.Reader.word16.Symbol as read
+use Rattle.reader.proofs.Reader.word16.Symbol.{name as #read}
+use Rattle.reader.proofs.Reader.word16.Met as read-thm
+use Rattle.reader.proofs.sizes_of.Key.{name as #this}
+use Rattle.reader.proofs.sizes_of as this
+use Rattle.reader.proofs.sizes_of.Statement as stated
+use Rattle.reader.proofs.sizes_of.Code as code
 
 abbrev stayed : Stays (this.ended .signature .params) (this.ended .kept)
 stayed = (stay-none-slice (0 ∷ []) tt (plain (λ _. u8)) yes, tt)
@@ -110,6 +110,6 @@ sizes-of-spec 𝓤 H 𝓜 𝓖 𝓡 =
     entered 𝓤 H (tripleOf 𝓤 H (𝓖 .A) this.signature (this.spec 𝓤 H (𝓖 .A) (𝓜 .mem) (𝓡 .run)))
     (tables 𝓤 H 𝓜 𝓡 code.env .C) (tables 𝓤 H 𝓜 𝓡 code.env .Λ) #this code.function (code.unfolded 𝓤 H 𝓜 𝓡)
     (meets 𝓤 H (𝓖 .A) (givenOf 𝓤 H 𝓜 𝓖) (𝓜 .mem) (𝓡 .run) (tablesOf 𝓤 H 𝓜 (tables 𝓤 H 𝓜 𝓡 code.env))
-    (cited 𝓤 H (New 𝓤 H (𝓖 .A) (𝓜 .mem) (𝓡 .run)) 𝓜 𝓡 code.env #new new.routine code.calls-plan·Reader·new (new-thm.met 𝓤 H 𝓜 𝓖 𝓡))
-    (cited 𝓤 H (Advanced 𝓤 H (𝓖 .A) (𝓜 .mem) (𝓡 .run)) 𝓜 𝓡 code.env #advanced advanced.routine code.calls-plan·Reader·advanced (advanced-thm.met 𝓤 H 𝓜 𝓖 𝓡))
-    (cited 𝓤 H (Read w16 2 word16 𝓤 H (𝓖 .A)) 𝓜 𝓡 code.env #read read.routine code.calls-plan·Reader·word16 (read-thm.met 𝓤 H 𝓜 𝓖 𝓡)))
+    (cited 𝓤 H (New 𝓤 H (𝓖 .A) (𝓜 .mem) (𝓡 .run)) 𝓜 𝓡 code.env #new new.routine code.calls-reader·Reader·new (new-thm.met 𝓤 H 𝓜 𝓖 𝓡))
+    (cited 𝓤 H (Advanced 𝓤 H (𝓖 .A) (𝓜 .mem) (𝓡 .run)) 𝓜 𝓡 code.env #advanced advanced.routine code.calls-reader·Reader·advanced (advanced-thm.met 𝓤 H 𝓜 𝓖 𝓡))
+    (cited 𝓤 H (Read w16 2 word16 𝓤 H (𝓖 .A)) 𝓜 𝓡 code.env #read read.routine code.calls-reader·Reader·word16 (read-thm.met 𝓤 H 𝓜 𝓖 𝓡)))

@@ -36,26 +36,26 @@ use denote.Triple.Table.{entered, cited}
 use denote.Triple.Walked.{says, needs, Stays, stay-none, stay-none-slice, walkOf, goes-none, goes-none-slice, Walks, ends-at, walked, walk-meets}
 use denote.Exit.{yes}
 use Rattle.words.specs.Words.{byte, word32}
-use Rattle.plan.specs.declared.Entry.{Entry}
-use Rattle.plan.proofs.Calling.{New, Advanced, Read, typed, calls-new, calls-advanced, calls-read}
-use Rattle.plan.proofs.Entry as S
-use Rattle.plan.proofs.Entry.Laws as S′
-use Rattle.plan.proofs.Reader.new.Symbol as new
-use Rattle.plan.proofs.Reader.new.Symbol.{name as #new}
-use Rattle.plan.proofs.Reader.new.Met as new-thm
-use Rattle.plan.proofs.Reader.advanced.Symbol as advanced
-use Rattle.plan.proofs.Reader.advanced.Symbol.{name as #advanced}
-use Rattle.plan.proofs.Reader.advanced.Met as advanced-thm
-use Rattle.plan.proofs.Reader.byte.Symbol as read-byte
-use Rattle.plan.proofs.Reader.byte.Symbol.{name as #byte}
-use Rattle.plan.proofs.Reader.byte.Met as byte-thm
-use Rattle.plan.proofs.Reader.word32.Symbol as read-word32
-use Rattle.plan.proofs.Reader.word32.Symbol.{name as #word32}
-use Rattle.plan.proofs.Reader.word32.Met as word32-thm
-use Rattle.plan.proofs.entry_from.Key.{name as #this}
-use Rattle.plan.proofs.entry_from as this
-use Rattle.plan.proofs.entry_from.Statement as stated
-use Rattle.plan.proofs.entry_from.Code as code
+use Rattle.reader.specs.declared.Entry.{Entry}
+use Rattle.reader.proofs.Calling.{New, Advanced, Read, typed, calls-new, calls-advanced, calls-read}
+use Rattle.reader.proofs.Entry as S
+use Rattle.reader.proofs.Entry.Laws as S′
+use Rattle.reader.proofs.Reader.new.Symbol as new
+use Rattle.reader.proofs.Reader.new.Symbol.{name as #new}
+use Rattle.reader.proofs.Reader.new.Met as new-thm
+use Rattle.reader.proofs.Reader.advanced.Symbol as advanced
+use Rattle.reader.proofs.Reader.advanced.Symbol.{name as #advanced}
+use Rattle.reader.proofs.Reader.advanced.Met as advanced-thm
+use Rattle.reader.proofs.Reader.byte.Symbol as read-byte
+use Rattle.reader.proofs.Reader.byte.Symbol.{name as #byte}
+use Rattle.reader.proofs.Reader.byte.Met as byte-thm
+use Rattle.reader.proofs.Reader.word32.Symbol as read-word32
+use Rattle.reader.proofs.Reader.word32.Symbol.{name as #word32}
+use Rattle.reader.proofs.Reader.word32.Met as word32-thm
+use Rattle.reader.proofs.entry_from.Key.{name as #this}
+use Rattle.reader.proofs.entry_from as this
+use Rattle.reader.proofs.entry_from.Statement as stated
+use Rattle.reader.proofs.entry_from.Code as code
 
 abbrev stayed : Stays (this.ended .signature .params) (this.ended .kept)
 stayed = (stay-none-slice (0 ∷ []) tt (plain (λ _. u8)) yes, (stay-none (λ _. usize) yes, (stay-none (λ _. usize) yes, tt)))
@@ -128,7 +128,7 @@ entry-from-spec 𝓤 H 𝓜 𝓖 𝓡 =
     entered 𝓤 H (tripleOf 𝓤 H (𝓖 .A) this.signature (this.spec 𝓤 H (𝓖 .A) (𝓜 .mem) (𝓡 .run)))
     (tables 𝓤 H 𝓜 𝓡 code.env .C) (tables 𝓤 H 𝓜 𝓡 code.env .Λ) #this code.function (code.unfolded 𝓤 H 𝓜 𝓡)
     (meets 𝓤 H (𝓖 .A) (givenOf 𝓤 H 𝓜 𝓖) (𝓜 .mem) (𝓡 .run) (tablesOf 𝓤 H 𝓜 (tables 𝓤 H 𝓜 𝓡 code.env))
-    (cited 𝓤 H (New 𝓤 H (𝓖 .A) (𝓜 .mem) (𝓡 .run)) 𝓜 𝓡 code.env #new new.routine code.calls-plan·Reader·new (new-thm.met 𝓤 H 𝓜 𝓖 𝓡))
-    (cited 𝓤 H (Advanced 𝓤 H (𝓖 .A) (𝓜 .mem) (𝓡 .run)) 𝓜 𝓡 code.env #advanced advanced.routine code.calls-plan·Reader·advanced (advanced-thm.met 𝓤 H 𝓜 𝓖 𝓡))
-    (cited 𝓤 H (Read w8 1 byte 𝓤 H (𝓖 .A)) 𝓜 𝓡 code.env #byte read-byte.routine code.calls-plan·Reader·byte (byte-thm.met 𝓤 H 𝓜 𝓖 𝓡))
-    (cited 𝓤 H (Read w32 4 word32 𝓤 H (𝓖 .A)) 𝓜 𝓡 code.env #word32 read-word32.routine code.calls-plan·Reader·word32 (word32-thm.met 𝓤 H 𝓜 𝓖 𝓡)))
+    (cited 𝓤 H (New 𝓤 H (𝓖 .A) (𝓜 .mem) (𝓡 .run)) 𝓜 𝓡 code.env #new new.routine code.calls-reader·Reader·new (new-thm.met 𝓤 H 𝓜 𝓖 𝓡))
+    (cited 𝓤 H (Advanced 𝓤 H (𝓖 .A) (𝓜 .mem) (𝓡 .run)) 𝓜 𝓡 code.env #advanced advanced.routine code.calls-reader·Reader·advanced (advanced-thm.met 𝓤 H 𝓜 𝓖 𝓡))
+    (cited 𝓤 H (Read w8 1 byte 𝓤 H (𝓖 .A)) 𝓜 𝓡 code.env #byte read-byte.routine code.calls-reader·Reader·byte (byte-thm.met 𝓤 H 𝓜 𝓖 𝓡))
+    (cited 𝓤 H (Read w32 4 word32 𝓤 H (𝓖 .A)) 𝓜 𝓡 code.env #word32 read-word32.routine code.calls-reader·Reader·word32 (word32-thm.met 𝓤 H 𝓜 𝓖 𝓡)))

@@ -39,9 +39,9 @@ use denote.Triple.Spec.{Meets, tripleOf}
 use denote.Triple.Walked.{says, needs, Stays, stay-none, walkOf, goes-none, Walks, ends-at, walked, walk-meets}
 use denote.Triple.Clauses.{Ended, Clauses, closing, ensured, lasts}
 use denote.Exit.{yes}
-use Rattle.plan.specs.declared.Reader.{Reader}
-use Rattle.plan.proofs.Reader as T
-use Rattle.plan.proofs.Reader.Laws as T′
+use Rattle.reader.specs.declared.Reader.{Reader}
+use Rattle.reader.proofs.Reader as T
+use Rattle.reader.proofs.Reader.Laws as T′
 
 -- the reader's type, over the signature's lifetimes
 abbrev B : Lfts 1 → RattleType

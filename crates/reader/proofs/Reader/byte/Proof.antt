@@ -3,14 +3,14 @@ use contract.Running.{givenOf, tables, tablesOf}
 use denote.Triple.Spec.{tripleOf}
 use denote.Triple.Table.{entered, cited}
 use Rattle.words.specs.Words.{byte}
-use Rattle.plan.proofs.Reading.{Callee, reads}
+use Rattle.reader.proofs.Reading.{Callee, reads}
 use Rattle.words.proofs.byte.Symbol as callee
 use Rattle.words.proofs.byte.Symbol.{name as #callee}
 use Rattle.words.proofs.byte.Met as callee-thm
-use Rattle.plan.proofs.Reader.byte.Key.{name as #this}
-use Rattle.plan.proofs.Reader.byte as this
-use Rattle.plan.proofs.Reader.byte.Statement as stated
-use Rattle.plan.proofs.Reader.byte.Code as code
+use Rattle.reader.proofs.Reader.byte.Key.{name as #this}
+use Rattle.reader.proofs.Reader.byte as this
+use Rattle.reader.proofs.Reader.byte.Statement as stated
+use Rattle.reader.proofs.Reader.byte.Code as code
 
 pub byte-spec : {M : Type 1} → stated.statement M
 unfolding code.routine tablesOf
