@@ -169,9 +169,9 @@ pub extern "C" fn importance(plan: &[u8], place: u64, limit: u64, answer: &mut [
     ensures { λ r. ⌜ r ≡ importanceOutcome (now (plan .entry)) place limit (now (answer .entry)) .returned ⌝ }
     ensures { λ _. ⌜ now (answer .exit) ≡ importanceOutcome (now (plan .entry)) place limit (now (answer .entry)) .buffer ⌝ }
 {
-    let v = importance_verdict(plan, place, limit, answer.len());
-    if let CallVerdict::Refused(_) = v {
-        return call_returned(v);
+    let w = importance_verdict(plan, place, limit, answer.len());
+    if let CallVerdict::Refused(_) = w {
+        return call_returned(w);
     }
     let gain = factoring::importance(plan::network_of(plan), place as usize, limit);
     put_answer(answer, gain.low, gain.high, gain.steps, gain.finished);
@@ -183,13 +183,13 @@ pub extern "C" fn difference(first: &[u8], second: &[u8], limit: u64, answer: &m
     ensures { λ r. ⌜ r ≡ differenceOutcome (now (first .entry)) (now (second .entry)) limit (now (answer .entry)) .returned ⌝ }
     ensures { λ _. ⌜ now (answer .exit) ≡ differenceOutcome (now (first .entry)) (now (second .entry)) limit (now (answer .entry)) .buffer ⌝ }
 {
-    let v = figure_verdict(first, limit, answer.len());
-    if let CallVerdict::Refused(_) = v {
-        return call_returned(v);
+    let a = figure_verdict(first, limit, answer.len());
+    if let CallVerdict::Refused(_) = a {
+        return call_returned(a);
     }
-    let w = second_verdict(second);
-    if let CallVerdict::Refused(_) = w {
-        return call_returned(w);
+    let b = second_verdict(second);
+    if let CallVerdict::Refused(_) = b {
+        return call_returned(b);
     }
     let d = factoring::difference(plan::network_of(first), plan::network_of(second), limit);
     put_answer(answer, bits_of(d.low), bits_of(d.high), d.steps, d.finished);

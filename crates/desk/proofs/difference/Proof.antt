@@ -86,13 +86,18 @@ network-of-requires : tie.Need-network-of-requires
 network-of-requires c κs = asks (c .before .before .before) .2
 
 network-of-requires-2 : tie.Need-network-of-requires-2
-network-of-requires-2 c κs = second-ok (c .before)
+network-of-requires-2 c κs =
+    let f = asks (c .before .before .before .before) .2 in
+    let s = second-ok (c .before) in
+    search needs
 
 difference-requires : tie.Need-difference-requires
 difference-requires c κs =
     let k = asks (c .before .before .before .before .before) in
     let a = c .before .before .before .before .before .before .before .before .before .before .before .args in
-    (stands-valid (a .first .now) (c .before .network-of .result) (c .before .network-of .ensures .0) (k .2), stands-valid (a .second .now) (c .network-of2 .result) (c .network-of2 .ensures .0) (second-ok (c .before .before)), omega (arith, k .0))
+    let s = second-ok (c .before .before) in
+    let stands = c .network-of2 .ensures .0 in
+    (stands-valid (a .first .now) (c .before .network-of .result) (c .before .network-of .ensures .0) (k .2), search (k .2, stands-valid (a .first .now) (c .network-of2 .result), stands-valid (a .second .now) (c .network-of2 .result)), omega (arith, k .0))
 
 bits-of-requires : tie.Need-bits-of-requires
 bits-of-requires c κs = search needs

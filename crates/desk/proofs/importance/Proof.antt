@@ -6,6 +6,7 @@ use Rattle.reliability.specs.declared.Figure.{Figure}
 use Rattle.reliability.specs.Comparisons.{importance}
 use Rattle.plan.specs.declared.Verdict.the-variants.{Accepted as PlanAccepted}
 use Rattle.plan.specs.Plans.{sizeM, verdict, planOf}
+use Rattle.network.proofs.Picks.{built-used}
 use Rattle.plan.proofs.Accepted.{stands-plain, stands-importance}
 use Rattle.desk.specs.declared.CallVerdict.the-variants.{Accepted}
 use Rattle.desk.specs.Outcomes.{callReturned, asked, planned, placed, figureVerdict, importanceVerdict, importanceOutcome, withFigure}
@@ -54,7 +55,9 @@ importance-requires c κs =
     let k = asks (c .before) in
     let a = c .before .before .before .before .before .before .args in
     let (valid, equal, used) = stands-plain (a .plan .now) (c .network-of .result) (c .network-of .ensures .0) (c .network-of .ensures .1) (a .place) (k .3) (k .2) in
-    (valid, equal, used, omega (arith, k .0))
+    let at = built-used (c .network-of .result) (sizeM (a .plan .now)) (c .network-of .ensures .1) in
+    let some : 0 < sizeM (a .plan .now) = omega (arith, k .3) in
+    (valid, equal, search (at, some, k .3), omega (arith, k .0))
 
 put-answer-requires : tie.Need-put-answer-requires
 put-answer-requires c κs = asks (c .before .before .before) .1
