@@ -2,7 +2,7 @@
 use Prim.Native.Nat.{ℕ, zero, suc, _+_, _-_, _*_, _≤_, _<_, zero-le}
 use mathlib.Core.Path.{_≡_, refl, sym, ap, _∙_, subst}
 use mathlib.Core.List.{List}
-use mathlib.Core.Bool.{Bool, true, false, not, _||_, or-true, Bool-discrete}
+use mathlib.Core.Bool.{Bool, true, false, not, or-true, Bool-discrete}
 use mathlib.Core.Logic.{_⊎_, inl, inr, _↔_, by-cases}
 use native.Mathlib.Numerals.{add-one}
 use native.Mathlib.Omega.{arith}

@@ -1,6 +1,5 @@
 use mathlib.Core.Path.{sym, ap, _∙_}
 use Rattle.desk.specs.declared.CallVerdict.{CallVerdict}
-use Rattle.plan.specs.Plans.{verdict}
 use native.Mathlib.Omega.{arith}
 use Rattle.desk.specs.Outcomes.{also, placed}
 use Rattle.desk.proofs.Answers.{figure-means}

@@ -1,6 +1,7 @@
 use Prim.Native.Nat.{ℕ, _<_}
 use mathlib.Core.Path.{_≡_, sym, ap, _∙_}
 use mathlib.Core.List.{List, _++_}
+use native.Mathlib.Omega.{arith}
 use lib.ListN.{length, take, drop}
 use lib.Seq.{length-take-le}
 use Rattle.listing.specs.Listings.{listing}
@@ -21,7 +22,7 @@ returns : tie.Need-returns
 returns c =
     let a = c .before .before .before .before .args in
     let l = c .listing in
-    let more : 388 < length (a .buffer .now) = search needs in (
+    let more : 388 < length (a .buffer .now) = omega arith in (
       l .ensures .1 .0,
       λ input is.
           let e : listing (take (a .n) (a .buffer .now)) ≡ listing input = ap listing is ∙ enough input (length (a .buffer .now)) more in
