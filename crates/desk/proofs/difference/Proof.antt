@@ -95,9 +95,10 @@ difference-requires : tie.Need-difference-requires
 difference-requires c κs =
     let k = asks (c .before .before .before .before .before) in
     let a = c .before .before .before .before .before .before .before .before .before .before .before .args in
+    let f = k .2 in
     let s = second-ok (c .before .before) in
     let stands = c .network-of2 .ensures .0 in
-    (stands-valid (a .first .now) (c .before .network-of .result) (c .before .network-of .ensures .0) (k .2), search (k .2, stands-valid (a .first .now) (c .network-of2 .result), stands-valid (a .second .now) (c .network-of2 .result)), omega (arith, k .0))
+    (stands-valid (a .first .now) (c .before .network-of .result) (c .before .network-of .ensures .0) (k .2), search (stands-valid (a .first .now) (c .network-of2 .result), stands-valid (a .second .now) (c .network-of2 .result)), omega (arith, k .0))
 
 bits-of-requires : tie.Need-bits-of-requires
 bits-of-requires c κs = search needs

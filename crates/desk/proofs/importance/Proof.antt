@@ -54,10 +54,11 @@ importance-requires : tie.Need-importance-requires
 importance-requires c κs =
     let k = asks (c .before) in
     let a = c .before .before .before .before .before .before .args in
-    let (valid, equal, used) = stands-plain (a .plan .now) (c .network-of .result) (c .network-of .ensures .0) (c .network-of .ensures .1) (a .place) (k .3) (k .2) in
+    let (valid, equal, _) = stands-plain (a .plan .now) (c .network-of .result) (c .network-of .ensures .0) (c .network-of .ensures .1) (a .place) (k .3) (k .2) in
     let at = built-used (c .network-of .result) (sizeM (a .plan .now)) (c .network-of .ensures .1) in
-    let some : 0 < sizeM (a .plan .now) = omega (arith, k .3) in
-    (valid, equal, search (at, some, k .3), omega (arith, k .0))
+    let within = k .3 in
+    let some : 0 < sizeM (a .plan .now) = omega arith in
+    (valid, equal, search at, omega (arith, k .0))
 
 put-answer-requires : tie.Need-put-answer-requires
 put-answer-requires c κs = asks (c .before .before .before) .1
