@@ -1,102 +1,60 @@
--- One law for accepted or refused, one for what is accepted, one for an answer read back.
-use Prim.Native.Nat.{ℕ, suc, _+_, _-_, _*_, _/_, _%_, _^_, _≤_, _<_, max}
+-- One law for an answer or a refusal, one for what a figure's call accepts, one for an answer read back.
+use Prim.Native.Nat.{ℕ, suc, _-_, _*_, _^_, _≤_, _<_, max}
 use mathlib.Core.Path.{_≡_, refl, sym, ap, _∙_, subst}
 use mathlib.Core.List.{List}
-use mathlib.Core.Logic.{_⊎_, inl, inr, _↔_}
+use mathlib.Core.Logic.{_⊎_, inl, inr, _↔_, Iff·trans}
 use mathlib.Core.Bool.{Bool, true, false, cond, _&&_}
-use native.Mathlib.Nat.{mod-eq-of-lt, div-div-eq-div-mul}
 use native.Mathlib.Omega.{arith}
-use native.Mathlib.Decide.{decLe, decLt}
 use lib.Dec.{leb}
 use lib.IntN.{ℤ, pos, negsuc}
 use lib.Signed.{mag}
-use lib.ListN.{length, length-drop}
+use lib.ListN.{length, drop, length-drop}
 use borrow.Author.Tests.{lt-ltb, le-ltb, le-leb, lt-leb, leb-true, leb-false}
+use Rattle.words.proofs.Laws.{whole32}
 use Rattle.reliability.specs.declared.Figure.{Figure}
 use Rattle.reliability.specs.Networks.{Valid}
-use Rattle.plan.specs.declared.Verdict.{Verdict}
-use Rattle.plan.specs.declared.Verdict.the-variants.{Accepted, Refused}
-use Rattle.plan.specs.declared.Cause.the-variants.{Limit, Buffer, Place}
-use Rattle.plan.specs.Plans.{WellFormed, sizeM, verdict, also, returned, planOf}
-use Rattle.plan.proofs.Verdicts.{number-range, zero-accepted, accepted-means, kept, both-accepted}
+use Rattle.plan.specs.Plans.{WellFormed, verdict, planOf}
+use Rattle.plan.proofs.Verdicts.{accepted-means}
 use Rattle.plan.proofs.Accepted.{plan-valid}
-use Rattle.desk.specs.Outcomes.{twos, withFigure, asked, placed, figureVerdict, Outcome, unless, unlessSecond, accepted}
-use Rattle.desk.specs.Answers.{lowIn, highIn, stepsIn, finishedIn, signed, Holds, Marked, Full, Refusal, returnedOfBoth}
+use Rattle.desk.specs.declared.CallVerdict.{CallVerdict}
+use Rattle.desk.specs.declared.CallVerdict.the-variants.{Accepted, Refused}
+use Rattle.desk.specs.Outcomes.{twos, withFigure, callReturned, asked, planned, figureVerdict, Outcome, unless}
+use Rattle.desk.specs.Answers.{lowIn, highIn, stepsIn, finishedIn, signed, Holds, Marked, Full, Refusal}
+use Rattle.desk.proofs.Calls.{call-number-range, zero-accepted, asked-means, planned-means, also-means}
 
--- ---- accepted or refused, by a verdict and then by a second one
+-- ---- accepted or refused
 
-module _ (f : Figure) (b : List ℕ) where
-  abbrev outcome : Verdict → Verdict → Outcome
-  outcome v w = unless v b (unlessSecond w b (accepted (withFigure f b)))
-
-  pub full-or-refused : (v w : Verdict) → (v ≡ Accepted → 16 ≤ length b) → Full (outcome v w) b (withFigure f b) ⊎ Refusal (outcome v w) b
-  full-or-refused Accepted Accepted room = inl (record { zero = refl; written = refl; later = refl; size = omega (arith, room refl, length-drop 16 b) })
-  full-or-refused Accepted (Refused c) room = inr (record { numbered = omega (arith, number-range c); untouched = refl })
-  full-or-refused (Refused c) w room = inr (record { numbered = omega (arith, number-range c); untouched = refl })
-
-  pub returned-of-both : (v w : Verdict) → outcome v w .returned ≡ returnedOfBoth v w
-  returned-of-both Accepted Accepted = refl
-  returned-of-both Accepted (Refused c) = refl
-  returned-of-both (Refused c) w = refl
-
-  pub returned-alone : (v : Verdict) → outcome v Accepted .returned ≡ returned v
-  returned-alone Accepted = refl
-  returned-alone (Refused c) = refl
+pub returned-of : (v : CallVerdict) (b answer : List ℕ) → unless v b answer .returned ≡ callReturned v
+returned-of Accepted b answer = refl
+returned-of (Refused c) b answer = refl
 
 -- 0 is returned exactly where the verdict is accepted
-pub zero-alone : {r : ℕ} (v : Verdict) → r ≡ returned v → r ≡ 0 ↔ v ≡ Accepted
-zero-alone v e = (λ z. zero-accepted v (sym e ∙ z), λ h. e ∙ ap returned h)
+pub zero-of : {r : ℕ} (v : CallVerdict) → r ≡ callReturned v → r ≡ 0 ↔ v ≡ Accepted
+zero-of v e = (λ z. zero-accepted v (sym e ∙ z), λ h. e ∙ ap callReturned h)
 
--- or where both are, for a number plus 20 is never 0
-pub zero-both : {r : ℕ} (v w : Verdict) → r ≡ returnedOfBoth v w → r ≡ 0 ↔ (v ≡ Accepted) × (w ≡ Accepted)
-zero-both Accepted Accepted e = (λ _. (refl, refl), λ _. e)
-zero-both Accepted (Refused c) e = (λ z. absurd (omega arith), λ h. cc)
-zero-both (Refused c) w e = (λ z. absurd (omega (arith, number-range c)), λ h. cc)
-
--- ---- what is accepted
-
-pub also-means : (u v : Verdict) → also u v ≡ Accepted ↔ (u ≡ Accepted) × (v ≡ Accepted)
-also-means u v = (both-accepted u v, λ h. rw (h .0) (h .1))
-
-asked-means : (limit room : ℕ) → asked limit room ≡ Accepted ↔ (limit ≤ 1000000) × (16 ≤ room)
-unfolding asked
-asked-means limit room = (
-  λ e.
-      let few = kept {c = Limit} (decLe limit 1000000) e (λ n. simp (lt-leb limit 1000000 (omega arith))) in
-      (few, kept {c = Buffer} (decLe 16 room) e (λ n. simp (le-leb limit 1000000 few, lt-leb 16 room (omega arith)))),
-  λ h. simp (le-leb limit 1000000 (h .0), le-leb 16 room (h .1)),
-)
-
-pub placed-means : (plan : List ℕ) (place : ℕ) → placed plan place ≡ Accepted ↔ place < sizeM plan
-unfolding placed
-placed-means plan place = (
-  λ e. kept {c = Place} (decLt place (sizeM plan)) e (λ n. simp (le-ltb place (sizeM plan) (omega arith))),
-  λ h. simp (lt-ltb place (sizeM plan) h),
-)
+pub full-or-refused : (f : Figure) (b : List ℕ) (v : CallVerdict) → (v ≡ Accepted → 16 ≤ length b)
+    → Full (unless v b (withFigure f b)) b (withFigure f b) ⊎ Refusal (unless v b (withFigure f b)) b
+full-or-refused f b Accepted room = inl (record { zero = refl; written = refl; later = refl; size = omega (arith, room refl, length-drop 16 b) })
+full-or-refused f b (Refused c) room = inr (record { numbered = omega (arith, call-number-range c); untouched = refl })
 
 -- the causes of a figure: the limit, the buffer, the plan
 pub figure-means : (plan : List ℕ) (limit room : ℕ) → figureVerdict plan limit room ≡ Accepted ↔ (limit ≤ 1000000) × (16 ≤ room) × WellFormed plan
 figure-means plan limit room =
     let a = asked-means limit room in
-    let w = accepted-means plan in
-    let e = also-means (asked limit room) (verdict plan) in
-    (λ h. (a .0 (e .0 h .0) .0, a .0 (e .0 h .0) .1, w .0 (e .0 h .1)), λ h. e .1 (a .1 (h .0, h .1), w .1 (h .2)))
+    let p = Iff·trans (planned-means (verdict plan)) (accepted-means plan) in
+    let e = also-means (asked limit room) (planned (verdict plan)) in
+    (λ h. (a .0 (e .0 h .0) .0, a .0 (e .0 h .0) .1, p .0 (e .0 h .1)), λ h. e .1 (a .1 (h .0, h .1), p .1 (h .2)))
 
 pub valid-of : (plan : List ℕ) → WellFormed plan → Valid (planOf plan)
 valid-of plan w = plan-valid plan (accepted-means plan .1 w)
 
 -- ---- an answer read back
 
--- four bytes of a number of 32 bits make it up again
-whole : (x : ℕ) → x < 2 ^ 32 → x % 256 + 256 * (x / 256 % 256) + 65536 * (x / 65536 % 256 + 256 * (x / 16777216 % 256)) ≡ x
-whole x h =
-    let top : x / 16777216 % 256 ≡ x / 16777216 = mod-eq-of-lt (omega arith) in
-    omega (arith, div-div-eq-div-mul x 256 256, div-div-eq-div-mul x 65536 256)
-
 written : (f : Figure) (b : List ℕ) → (f .low < 2 ^ 32) × (f .high < 2 ^ 32) × (f .steps < 2 ^ 32) → Holds (withFigure f b) f
 unfolding lowIn highIn stepsIn finishedIn
 written f b h =
-    record { low = whole (f .low) (h .0); high = whole (f .high) (h .1); steps = whole (f .steps) (h .2); finished = whole (cond (f .finished) 1 0) (flag (f .finished)) }
+    let later : ℕ → List ℕ = λ k. drop (4 * k) (withFigure f b) in
+    record { low = whole32 (f .low) (later 1) (h .0); high = whole32 (f .high) (later 2) (h .1); steps = whole32 (f .steps) (later 3) (h .2); finished = whole32 (cond (f .finished) 1 0) (later 4) (flag (f .finished)) }
   where
     flag : (t : Bool) → cond t 1 0 < 2 ^ 32
     flag true = omega arith

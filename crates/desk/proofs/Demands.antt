@@ -1,6 +1,6 @@
 -- The three demands on a figure, over what the call returns and the numbers that it leaves in the answer buffer.
 use Prim.Native.Nat.{ℕ, _+_, _*_, _^_, _≤_, min}
-use mathlib.Core.Path.{_≡_, refl, ap, _∙_, subst}
+use mathlib.Core.Path.{_≡_, ap, _∙_, subst}
 use mathlib.Core.List.{List}
 use mathlib.Core.Logic.{_⊎_, _↔_, Iff·trans}
 use mathlib.Core.Bool.{cond}
@@ -13,25 +13,25 @@ use Rattle.reliability.specs.Networks.{Network, Valid}
 use Rattle.reliability.specs.Exact.{exact}
 use Rattle.reliability.specs.Rule.{figure, needed}
 use Rattle.reliability.proofs.Theorems as rule
-use Rattle.plan.specs.declared.Verdict.{Verdict}
-use Rattle.plan.specs.declared.Verdict.the-variants.{Accepted}
-use Rattle.plan.specs.Plans.{WellFormed, sizeN, sizeM, verdict, returned, planOf}
-use Rattle.plan.proofs.Verdicts.{accepted-means}
+use Rattle.plan.specs.Plans.{WellFormed, sizeN, sizeM, verdict, planOf}
+use Rattle.plan.proofs.Verdicts.{accepted-means, zero-means}
 use Rattle.plan.proofs.Accepted.{plan-equal, plan-links, plan-nodes}
-use Rattle.desk.specs.Outcomes.{withFigure, Outcome, figureVerdict, checkOutcome, figureOutcome}
+use Rattle.desk.specs.declared.CallVerdict.{CallVerdict}
+use Rattle.desk.specs.declared.CallVerdict.the-variants.{Accepted}
+use Rattle.desk.specs.Outcomes.{withFigure, callReturned, Outcome, figureVerdict, checkOutcome, figureOutcome}
 use Rattle.desk.specs.Answers.{lowIn, highIn, stepsIn, finishedIn, Holds, LiesWithin, Marked, Full, Refusal}
-use Rattle.desk.proofs.Answers.{full-or-refused, returned-alone, zero-alone, figure-means, valid-of, read-back, marked, mark-true}
+use Rattle.desk.proofs.Answers.{full-or-refused, returned-of, zero-of, figure-means, valid-of, read-back, marked, mark-true}
 
 -- demand 1: check accepts a plan that meets none of the causes 1 to 6, and no other
 pub check-accepted : (plan : List ℕ) → checkOutcome plan ≡ 0 ↔ WellFormed plan
 unfolding checkOutcome
-check-accepted plan = Iff·trans (zero-alone (verdict plan) refl) (accepted-means plan)
+check-accepted plan = Iff·trans (zero-means (verdict plan)) (accepted-means plan)
 
 module _ (plan : List ℕ) (limit : ℕ) (b : List ℕ) where
   abbrev o : Outcome
   o = figureOutcome plan limit b
 
-  abbrev v : Verdict
+  abbrev v : CallVerdict
   v = figureVerdict plan limit (length b)
 
   abbrev g : Network
@@ -43,16 +43,16 @@ module _ (plan : List ℕ) (limit : ℕ) (b : List ℕ) where
   -- demand 1: either a full answer or a numbered refusal with the buffer untouched
   pub figure-full-or-refused : Full o b (withFigure f b) ⊎ Refusal o b
   unfolding figureOutcome
-  figure-full-or-refused = full-or-refused f b v Accepted (λ e. figure-means plan limit (length b) .0 e .1)
+  figure-full-or-refused = full-or-refused f b v (λ e. figure-means plan limit (length b) .0 e .1)
 
   -- demand 1: the number is that of the first cause in the table's order, 0 if there is none
-  pub figure-returned : o .returned ≡ returned v
+  pub figure-returned : o .returned ≡ callReturned v
   unfolding figureOutcome
-  figure-returned = returned-alone f b v
+  figure-returned = returned-of v b (withFigure f b)
 
   -- demand 1: 0 exactly when the verdict is accepted
   pub figure-zero : o .returned ≡ 0 ↔ v ≡ Accepted
-  figure-zero = zero-alone v figure-returned
+  figure-zero = zero-of v figure-returned
 
   -- demand 1: a call that meets none of its rows is accepted, and no other
   pub figure-accepted : o .returned ≡ 0 ↔ (limit ≤ 1000000) × (16 ≤ length b) × WellFormed plan

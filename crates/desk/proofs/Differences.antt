@@ -2,7 +2,7 @@
 use Prim.Native.Nat.{ℕ, _+_, _*_, _^_, _≤_, _<_, min, max}
 use mathlib.Core.Path.{_≡_, ap, ap₂, _∙_, subst}
 use mathlib.Core.List.{List}
-use mathlib.Core.Logic.{_⊎_, _↔_}
+use mathlib.Core.Logic.{_⊎_, _↔_, Iff·trans}
 use mathlib.Core.Bool.{cond}
 use native.Mathlib.Omega.{arith}
 use lib.IntN.{ℤ, pos, negℤ, _+ℤ_, _*ℤ_}
@@ -17,24 +17,22 @@ use Rattle.reliability.specs.Comparisons.{difference, exactDifference}
 use Rattle.reliability.proofs.Signed.{minus-range}
 use Rattle.reliability.proofs.Theorems.{high-range, low-high}
 use Rattle.reliability.proofs.Comparisons as rule
-use Rattle.plan.specs.declared.Verdict.{Verdict}
-use Rattle.plan.specs.declared.Verdict.the-variants.{Accepted}
 use Rattle.plan.specs.Plans.{WellFormed, sizeN, sizeM, verdict, planOf}
 use Rattle.plan.proofs.Verdicts.{accepted-means}
 use Rattle.plan.proofs.Accepted.{plan-equal, plan-links, plan-nodes}
-use Rattle.desk.specs.Outcomes.{twos, withDifference, Outcome, figureVerdict, differenceOutcome}
-use Rattle.desk.specs.Answers.{lowIn, highIn, stepsIn, finishedIn, signed, HoldsSigned, LiesWithinSigned, Marked, Full, Refusal, returnedOfBoth}
-use Rattle.desk.proofs.Answers.{full-or-refused, returned-of-both, zero-both, figure-means, valid-of, read-back, signed-back, twos-range, marked, both-finished, mark-true}
+use Rattle.desk.specs.declared.CallVerdict.{CallVerdict}
+use Rattle.desk.specs.declared.CallVerdict.the-variants.{Accepted}
+use Rattle.desk.specs.Outcomes.{twos, withDifference, callReturned, plannedSecond, Outcome, figureVerdict, differenceVerdict, differenceOutcome}
+use Rattle.desk.specs.Answers.{lowIn, highIn, stepsIn, finishedIn, signed, HoldsSigned, LiesWithinSigned, Marked, Full, Refusal}
+use Rattle.desk.proofs.Calls.{also-means, second-means}
+use Rattle.desk.proofs.Answers.{full-or-refused, returned-of, zero-of, figure-means, valid-of, read-back, signed-back, twos-range, marked, both-finished, mark-true}
 
 module _ (first second : List ℕ) (limit : ℕ) (b : List ℕ) where
   abbrev o : Outcome
   o = differenceOutcome first second limit b
 
-  abbrev v : Verdict
-  v = figureVerdict first limit (length b)
-
-  abbrev w : Verdict
-  w = verdict second
+  abbrev v : CallVerdict
+  v = differenceVerdict first second limit (length b)
 
   abbrev g : Network
   g = planOf first
@@ -49,27 +47,31 @@ module _ (first second : List ℕ) (limit : ℕ) (b : List ℕ) where
   abbrev bits : Figure
   bits = record { low = twos (d .low); high = twos (d .high); steps = d .steps; finished = d .finished }
 
+  -- the causes of a figure, then plan B's
+  means : v ≡ Accepted ↔ (limit ≤ 1000000) × (16 ≤ length b) × WellFormed first × WellFormed second
+  means =
+      let p = figure-means first limit (length b) in
+      let q = Iff·trans (second-means (verdict second)) (accepted-means second) in
+      let e = also-means (figureVerdict first limit (length b)) (plannedSecond (verdict second)) in
+      (λ h. let c = p .0 (e .0 h .0) in (c .0, c .1, c .2, q .0 (e .0 h .1)), λ h. e .1 (p .1 (h .0, h .1, h .2), q .1 (h .3)))
+
   -- demand 1: either a full answer or a numbered refusal with the buffer untouched
   pub difference-full-or-refused : Full o b (withDifference d b) ⊎ Refusal o b
   unfolding differenceOutcome
-  difference-full-or-refused = full-or-refused bits b v w (λ e. figure-means first limit (length b) .0 e .1)
+  difference-full-or-refused = full-or-refused bits b v (λ e. means .0 e .1)
 
   -- demand 1: the number is that of the first cause in the table's order, plan B's plus 20, 0 if there is none
-  pub difference-returned : o .returned ≡ returnedOfBoth v w
+  pub difference-returned : o .returned ≡ callReturned v
   unfolding differenceOutcome
-  difference-returned = returned-of-both bits b v w
+  difference-returned = returned-of v b (withDifference d b)
 
-  -- demand 1: 0 exactly when both verdicts are accepted
-  pub difference-zero : o .returned ≡ 0 ↔ (v ≡ Accepted) × (w ≡ Accepted)
-  difference-zero = zero-both v w difference-returned
+  -- demand 1: 0 exactly when the verdict is accepted
+  pub difference-zero : o .returned ≡ 0 ↔ v ≡ Accepted
+  difference-zero = zero-of v difference-returned
 
   -- demand 1: a call that meets none of its rows is accepted, and no other
   pub difference-accepted : o .returned ≡ 0 ↔ (limit ≤ 1000000) × (16 ≤ length b) × WellFormed first × WellFormed second
-  difference-accepted =
-      let z = difference-zero in
-      let p = figure-means first limit (length b) in
-      let q = accepted-means second in
-      (λ e. let c = p .0 (z .0 e .0) in (c .0, c .1, c .2, q .0 (z .0 e .1)), λ c. z .1 (p .1 (c .0, c .1, c .2), q .1 (c .3)))
+  difference-accepted = Iff·trans difference-zero means
 
   -- a call that returned 0, and the buffer that it left
   module _ (zero : o .returned ≡ 0) where

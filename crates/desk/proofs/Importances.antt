@@ -13,19 +13,21 @@ use Rattle.reliability.specs.Networks.{Network, Valid}
 use Rattle.reliability.specs.Rule.{needed}
 use Rattle.reliability.specs.Comparisons.{soundAt, soundCount, brokenAt, importance, exactImportance}
 use Rattle.reliability.proofs.Comparisons as rule
-use Rattle.plan.specs.declared.Verdict.{Verdict}
-use Rattle.plan.specs.declared.Verdict.the-variants.{Accepted}
-use Rattle.plan.specs.Plans.{WellFormed, sizeN, sizeM, firstEnd, secondEnd, returned, planOf}
+use Rattle.reader.specs.Layout.{sizeN, sizeM, firstEnd, secondEnd}
+use Rattle.plan.specs.Plans.{WellFormed, planOf}
 use Rattle.plan.proofs.Accepted.{plan-equal, plan-links, plan-nodes, plan-ends}
-use Rattle.desk.specs.Outcomes.{withFigure, placed, Outcome, figureVerdict, importanceVerdict, importanceOutcome}
+use Rattle.desk.specs.declared.CallVerdict.{CallVerdict}
+use Rattle.desk.specs.declared.CallVerdict.the-variants.{Accepted}
+use Rattle.desk.specs.Outcomes.{withFigure, callReturned, placed, Outcome, figureVerdict, importanceVerdict, importanceOutcome}
 use Rattle.desk.specs.Answers.{lowIn, highIn, stepsIn, finishedIn, Holds, LiesWithin, Marked, Full, Refusal}
-use Rattle.desk.proofs.Answers.{full-or-refused, returned-alone, zero-alone, also-means, placed-means, figure-means, valid-of, read-back, marked, both-finished, mark-true}
+use Rattle.desk.proofs.Calls.{also-means, placed-means}
+use Rattle.desk.proofs.Answers.{full-or-refused, returned-of, zero-of, figure-means, valid-of, read-back, marked, both-finished, mark-true}
 
 module _ (plan : List ℕ) (place limit : ℕ) (b : List ℕ) where
   abbrev o : Outcome
   o = importanceOutcome plan place limit b
 
-  abbrev v : Verdict
+  abbrev v : CallVerdict
   v = importanceVerdict plan place limit (length b)
 
   abbrev g : Network
@@ -45,16 +47,16 @@ module _ (plan : List ℕ) (place limit : ℕ) (b : List ℕ) where
   -- demand 1: either a full answer or a numbered refusal with the buffer untouched
   pub importance-full-or-refused : Full o b (withFigure f b) ⊎ Refusal o b
   unfolding importanceOutcome
-  importance-full-or-refused = full-or-refused f b v Accepted (λ e. means .0 e .1)
+  importance-full-or-refused = full-or-refused f b v (λ e. means .0 e .1)
 
   -- demand 1: the number is that of the first cause in the table's order, 0 if there is none
-  pub importance-returned : o .returned ≡ returned v
+  pub importance-returned : o .returned ≡ callReturned v
   unfolding importanceOutcome
-  importance-returned = returned-alone f b v
+  importance-returned = returned-of v b (withFigure f b)
 
   -- demand 1: 0 exactly when the verdict is accepted
   pub importance-zero : o .returned ≡ 0 ↔ v ≡ Accepted
-  importance-zero = zero-alone v importance-returned
+  importance-zero = zero-of v importance-returned
 
   -- demand 1: a call that meets none of its rows is accepted, and no other
   pub importance-accepted : o .returned ≡ 0 ↔ (limit ≤ 1000000) × (16 ≤ length b) × WellFormed plan × (place < sizeM plan)

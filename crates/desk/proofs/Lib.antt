@@ -1,5 +1,4 @@
-pub mod Words
-pub mod Twos
+pub mod TwosComplement
 pub mod Calls
 pub mod Answers
 pub mod Demands

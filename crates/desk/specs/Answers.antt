@@ -1,5 +1,5 @@
 -- How an answer is read back, and the words in which the demands speak of an outcome.
-use Prim.Native.Nat.{ℕ, _+_, _≤_, _<_}
+use Prim.Native.Nat.{ℕ, _≤_, _<_}
 use mathlib.Core.Path.{_≡_}
 use mathlib.Core.List.{List}
 use mathlib.Core.Logic.{_↔_}
@@ -8,11 +8,9 @@ use lib.Dec.{ltb}
 use lib.IntN.{ℤ, pos, _-ℤ_}
 use lib.ListN.{length, drop}
 use lib.Signed.{_≤ℤ_}
+use Rattle.words.specs.Words.{word32}
 use Rattle.reliability.specs.declared.Figure.{Figure}
 use Rattle.reliability.specs.declared.Difference.{Difference}
-use Rattle.plan.specs.declared.Verdict.{Verdict}
-use Rattle.plan.specs.declared.Verdict.the-variants.{Accepted, Refused}
-use Rattle.plan.specs.Plans.{word32, returned}
 use Rattle.desk.specs.Outcomes.{Outcome}
 
 -- ---- the four numbers in a buffer
@@ -74,9 +72,3 @@ pub record Full (o : Outcome) (b answer : List ℕ) : Type 0 where
 pub record Refusal (o : Outcome) (b : List ℕ) : Type 0 where
   pub numbered : 1 ≤ o .returned
   pub untouched : o .buffer ≡ b
-
--- what a difference returns: plan A's number, or plan B's plus 20
-abbrev pub returnedOfBoth : Verdict → Verdict → ℕ
-returnedOfBoth Accepted Accepted = 0
-returnedOfBoth Accepted (Refused c) = returned (Refused c) + 20
-returnedOfBoth (Refused c) v = returned (Refused c)

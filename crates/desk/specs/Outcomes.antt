@@ -1,22 +1,22 @@
 -- The four calls: what each returns, and what it leaves in the answer buffer.
-use Prim.Native.Nat.{ℕ, suc, _+_, _-_, _/_, _%_}
-use mathlib.Core.List.{List, [], _∷_, _++_}
-use mathlib.Core.Bool.{Bool, true, false, cond}
+use Prim.Native.Nat.{ℕ, _+_, _-_, _*_}
+use mathlib.Core.List.{List, _++_}
+use mathlib.Core.Bool.{Bool, cond}
 use lib.Dec.{leb, ltb}
 use lib.IntN.{ℤ, pos, negsuc}
 use lib.ListN.{length, drop}
+use Rattle.words.specs.Words.{le4}
 use Rattle.reliability.specs.declared.Figure.{Figure}
 use Rattle.reliability.specs.declared.Difference.{Difference}
 use Rattle.reliability.specs.Rule.{figure}
 use Rattle.reliability.specs.Comparisons.{importance, difference}
-use Rattle.plan.specs.declared.Cause.the-variants.{Limit, Buffer, Place}
 use Rattle.plan.specs.declared.Verdict.{Verdict}
-use Rattle.plan.specs.declared.Verdict.the-variants.{Accepted, Refused}
-use Rattle.plan.specs.Plans.{sizeM, verdict, also, returned, planOf}
-
--- 32 bits, little-endian
-abbrev pub le4 : ℕ → List ℕ
-le4 x = (x % 256) ∷ (x / 256 % 256) ∷ (x / 65536 % 256) ∷ (x / 16777216 % 256) ∷ []
+use Rattle.plan.specs.declared.Verdict.the-variants.{Accepted as PlanAccepted, Refused as PlanRefused}
+use Rattle.plan.specs.Plans.{sizeM, verdict, number, namedLink, returned, planOf}
+use Rattle.desk.specs.declared.CallCause.{CallCause}
+use Rattle.desk.specs.declared.CallCause.the-variants.{Limit, Buffer, Place, Plan, SecondPlan}
+use Rattle.desk.specs.declared.CallVerdict.{CallVerdict}
+use Rattle.desk.specs.declared.CallVerdict.the-variants.{Accepted, Refused}
 
 -- two's complement in 32 bits
 abbrev pub twos : ℤ → ℕ
@@ -33,43 +33,73 @@ withFigure f b = answered (f .low) (f .high) (f .steps) (f .finished) b
 abbrev pub withDifference : Difference → List ℕ → List ℕ
 withDifference d b = answered (twos (d .low)) (twos (d .high)) (d .steps) (d .finished) b
 
--- ---- refusals
+-- ---- the paper's numbers
+
+-- the column Number: plan A's is that of its cause, plan B's 20 more
+abbrev pub callNumber : CallCause → ℕ
+callNumber Limit = 7
+callNumber Buffer = 9
+callNumber Place = 8
+callNumber (Plan c) = number c
+callNumber (SecondPlan c) = number c + 20
+
+-- the link that a cause names, or 0
+abbrev pub callLink : CallCause → ℕ
+callLink Limit = 0
+callLink Buffer = 0
+callLink Place = 0
+callLink (Plan c) = namedLink c
+callLink (SecondPlan c) = namedLink c
+
+-- the column Returned
+abbrev pub callReturned : CallVerdict → ℕ
+callReturned Accepted = 0
+callReturned (Refused c) = callNumber c + 256 * callLink c
+
+-- ---- refusals, in the order in which the causes are tested
 
 -- limit above 1,000,000, then answer buffer under 16 bytes
-unfoldable pub asked : ℕ → ℕ → Verdict
-asked limit room = cond (leb limit 1000000) (cond (leb 16 room) Accepted (Refused Buffer)) (Refused Limit)
+unfoldable pub asked : ℕ → ℕ → CallVerdict
+asked limit room = cond (ltb 1000000 limit) (Refused Limit) (cond (ltb room 16) (Refused Buffer) Accepted)
+
+-- the plan's causes, of plan A and of plan B
+abbrev pub planned : Verdict → CallVerdict
+planned PlanAccepted = Accepted
+planned (PlanRefused c) = Refused (Plan c)
+
+abbrev pub plannedSecond : Verdict → CallVerdict
+plannedSecond PlanAccepted = Accepted
+plannedSecond (PlanRefused c) = Refused (SecondPlan c)
 
 -- link place m or above
-unfoldable pub placed : List ℕ → ℕ → Verdict
-placed plan place = cond (ltb place (sizeM plan)) Accepted (Refused Place)
+unfoldable pub placed : List ℕ → ℕ → CallVerdict
+placed plan place = cond (leb (sizeM plan) place) (Refused Place) Accepted
+
+-- the first verdict that is a refusal
+abbrev pub also : CallVerdict → CallVerdict → CallVerdict
+also Accepted v = v
+also (Refused c) v = Refused c
+
+abbrev pub figureVerdict : List ℕ → ℕ → ℕ → CallVerdict
+figureVerdict plan limit room = also (asked limit room) (planned (verdict plan))
+
+abbrev pub importanceVerdict : List ℕ → ℕ → ℕ → ℕ → CallVerdict
+importanceVerdict plan place limit room = also (figureVerdict plan limit room) (placed plan place)
+
+abbrev pub differenceVerdict : List ℕ → List ℕ → ℕ → ℕ → CallVerdict
+differenceVerdict first second limit room = also (figureVerdict first limit room) (plannedSecond (verdict second))
 
 -- ---- outcomes
-
--- the causes of a figure, in order
-abbrev pub figureVerdict : List ℕ → ℕ → ℕ → Verdict
-figureVerdict plan limit room = also (asked limit room) (verdict plan)
-
--- and of an importance
-abbrev pub importanceVerdict : List ℕ → ℕ → ℕ → ℕ → Verdict
-importanceVerdict plan place limit room = also (figureVerdict plan limit room) (placed plan place)
 
 -- what a call returns, and the answer buffer at its end
 pub record Outcome : Type 0 where
   pub returned : ℕ
   pub buffer : List ℕ
 
--- accepted with the outcome o, or refused with the buffer b as it was
-abbrev pub unless : Verdict → List ℕ → Outcome → Outcome
-unless Accepted b o = o
-unless (Refused c) b o = record { returned = returned (Refused c); buffer = b }
-
--- plan B refused with r: r plus 20
-abbrev pub unlessSecond : Verdict → List ℕ → Outcome → Outcome
-unlessSecond Accepted b o = o
-unlessSecond (Refused c) b o = record { returned = returned (Refused c) + 20; buffer = b }
-
-abbrev pub accepted : List ℕ → Outcome
-accepted b = record { returned = 0; buffer = b }
+-- accepted and answered, or refused with the buffer b as it was
+abbrev pub unless : CallVerdict → List ℕ → List ℕ → Outcome
+unless Accepted b answer = record { returned = 0; buffer = answer }
+unless (Refused c) b answer = record { returned = callReturned (Refused c); buffer = b }
 
 unfoldable pub checkOutcome : List ℕ → ℕ
 checkOutcome plan = returned (verdict plan)
@@ -77,15 +107,14 @@ checkOutcome plan = returned (verdict plan)
 unfoldable pub figureOutcome : List ℕ → ℕ → List ℕ → Outcome
 figureOutcome plan limit b =
     unless (figureVerdict plan limit (length b)) b
-    (accepted (withFigure (figure (planOf plan) limit) b))
+    (withFigure (figure (planOf plan) limit) b)
 
 unfoldable pub importanceOutcome : List ℕ → ℕ → ℕ → List ℕ → Outcome
 importanceOutcome plan place limit b =
     unless (importanceVerdict plan place limit (length b)) b
-    (accepted (withFigure (importance (planOf plan) place limit) b))
+    (withFigure (importance (planOf plan) place limit) b)
 
 unfoldable pub differenceOutcome : List ℕ → List ℕ → ℕ → List ℕ → Outcome
 differenceOutcome first second limit b =
-    unless (figureVerdict first limit (length b)) b
-    (unlessSecond (verdict second) b
-    (accepted (withDifference (difference (planOf first) (planOf second) limit) b)))
+    unless (differenceVerdict first second limit (length b)) b
+    (withDifference (difference (planOf first) (planOf second) limit) b)

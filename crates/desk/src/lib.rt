@@ -2,21 +2,23 @@
 use plan::Cause;
 use plan::Verdict;
 ghost use mathlib.Core.Path.{_≡_};
-ghost use mathlib.Core.List.{_++_};
-ghost use Prim.Native.Nat.{_+_, _≤_, _<_};
-ghost use lib.ListN.{length, take, drop};
-ghost use Rattle.plan.specs.Plans.{sizeM};
-ghost use Rattle.desk.specs.Outcomes.{le4, twos, answered, asked, placed, figureVerdict, importanceVerdict, checkOutcome, figureOutcome, importanceOutcome, differenceOutcome};
+ghost use Prim.Native.Nat.{_≤_};
+ghost use lib.ListN.{length};
+ghost use Rattle.plan.specs.Plans.{verdict};
+ghost use Rattle.desk.specs.Outcomes.{twos, answered, callNumber, callLink, callReturned, asked, planned, plannedSecond, placed, figureVerdict, importanceVerdict, checkOutcome, figureOutcome, importanceOutcome, differenceOutcome};
 
-// x, little-endian, in the four bytes from at on.
-fn put_u32(b: &mut [u8], at: usize, x: u32)
-    requires { ⌜ at + 4 ≤ length (now b) ⌝ }
-    ensures { λ _. ⌜ now (b .exit) ≡ take at (now (b .entry)) ++ le4 x ++ drop (at + 4) (now (b .entry)) ⌝ }
-{
-    b[at] = (x % 256) as u8;
-    b[at + 1] = (x / 256 % 256) as u8;
-    b[at + 2] = (x / 65536 % 256) as u8;
-    b[at + 3] = (x / 16777216 % 256) as u8;
+// Why a call is refused: its own causes, or that of plan A or of plan B.
+enum CallCause {
+    Limit,
+    Buffer,
+    Place,
+    Plan(Cause),
+    SecondPlan(Cause),
+}
+
+enum CallVerdict {
+    Accepted,
+    Refused(CallCause),
 }
 
 // Four numbers in the first sixteen bytes.
@@ -24,10 +26,10 @@ fn put_answer(b: &mut [u8], low: u32, high: u32, steps: u32, finished: bool)
     requires { ⌜ 16 ≤ length (now b) ⌝ }
     ensures { λ _. ⌜ now (b .exit) ≡ answered low high steps finished (now (b .entry)) ⌝ }
 {
-    put_u32(b, 0, low);
-    put_u32(b, 4, high);
-    put_u32(b, 8, steps);
-    put_u32(b, 12, finished as u32);
+    words::put_word32(b, 0, low);
+    words::put_word32(b, 4, high);
+    words::put_word32(b, 8, steps);
+    words::put_word32(b, 12, finished as u32);
 }
 
 // Two's complement in 32 bits.
@@ -41,47 +43,103 @@ fn bits_of(x: i32) -> u32
     }
 }
 
+// The column Number.
+fn call_number(c: CallCause) -> u8
+    ensures { λ r. ⌜ r ≡ callNumber c ⌝ }
+{
+    match c {
+        CallCause::Limit => 7,
+        CallCause::Buffer => 9,
+        CallCause::Place => 8,
+        CallCause::Plan(p) => plan::number_of(p),
+        CallCause::SecondPlan(p) => plan::number_of(p) + 20,
+    }
+}
+
+// The link that a cause names, or 0.
+fn call_link(c: CallCause) -> u16
+    ensures { λ r. ⌜ r ≡ callLink c ⌝ }
+{
+    match c {
+        CallCause::Limit => 0,
+        CallCause::Buffer => 0,
+        CallCause::Place => 0,
+        CallCause::Plan(p) => plan::named_link(p),
+        CallCause::SecondPlan(p) => plan::named_link(p),
+    }
+}
+
+// The column Returned.
+fn call_returned(v: CallVerdict) -> u64
+    ensures { λ r. ⌜ r ≡ callReturned v ⌝ }
+{
+    match v {
+        CallVerdict::Accepted => 0,
+        CallVerdict::Refused(c) => (call_number(c) as u64) + 256 * (call_link(c) as u64),
+    }
+}
+
 // Causes 7 and 9.
-fn asked_verdict(limit: u64, room: usize) -> Verdict
+fn asked_verdict(limit: u64, room: usize) -> CallVerdict
     ensures { λ r. ⌜ r ≡ asked limit room ⌝ }
 {
     if 1_000_000 < limit {
-        return Verdict::Refused(Cause::Limit);
+        return CallVerdict::Refused(CallCause::Limit);
     }
     if room < 16 {
-        return Verdict::Refused(Cause::Buffer);
+        return CallVerdict::Refused(CallCause::Buffer);
     }
-    Verdict::Accepted
+    CallVerdict::Accepted
+}
+
+// Causes 1 to 6, of plan A.
+fn plan_verdict(plan: &[u8]) -> CallVerdict
+    ensures { λ r. ⌜ r ≡ planned (verdict (now (plan .entry))) ⌝ }
+{
+    match plan::verdict_of(plan) {
+        Verdict::Accepted => CallVerdict::Accepted,
+        Verdict::Refused(c) => CallVerdict::Refused(CallCause::Plan(c)),
+    }
+}
+
+// And of plan B.
+fn second_verdict(plan: &[u8]) -> CallVerdict
+    ensures { λ r. ⌜ r ≡ plannedSecond (verdict (now (plan .entry))) ⌝ }
+{
+    match plan::verdict_of(plan) {
+        Verdict::Accepted => CallVerdict::Accepted,
+        Verdict::Refused(c) => CallVerdict::Refused(CallCause::SecondPlan(c)),
+    }
 }
 
 // Cause 8.
-fn place_verdict(plan: &[u8], place: u64) -> Verdict
+fn place_verdict(plan: &[u8], place: u64) -> CallVerdict
     requires { ⌜ 4 ≤ length (now plan) ⌝ }
     ensures { λ r. ⌜ r ≡ placed (now (plan .entry)) place ⌝ }
 {
-    let m = plan::sizes_of(plan).m as u64;
+    let m = reader::sizes_of(plan).m as u64;
     if place < m {
-        Verdict::Accepted
+        CallVerdict::Accepted
     } else {
-        Verdict::Refused(Cause::Place)
+        CallVerdict::Refused(CallCause::Place)
     }
 }
 
-fn figure_verdict(plan: &[u8], limit: u64, room: usize) -> Verdict
+fn figure_verdict(plan: &[u8], limit: u64, room: usize) -> CallVerdict
     ensures { λ r. ⌜ r ≡ figureVerdict (now (plan .entry)) limit room ⌝ }
 {
     match asked_verdict(limit, room) {
-        Verdict::Accepted => plan::verdict_of(plan),
-        Verdict::Refused(c) => Verdict::Refused(c),
+        CallVerdict::Accepted => plan_verdict(plan),
+        CallVerdict::Refused(c) => CallVerdict::Refused(c),
     }
 }
 
-fn importance_verdict(plan: &[u8], place: u64, limit: u64, room: usize) -> Verdict
+fn importance_verdict(plan: &[u8], place: u64, limit: u64, room: usize) -> CallVerdict
     ensures { λ r. ⌜ r ≡ importanceVerdict (now (plan .entry)) place limit room ⌝ }
 {
     match figure_verdict(plan, limit, room) {
-        Verdict::Accepted => place_verdict(plan, place),
-        Verdict::Refused(c) => Verdict::Refused(c),
+        CallVerdict::Accepted => place_verdict(plan, place),
+        CallVerdict::Refused(c) => CallVerdict::Refused(c),
     }
 }
 
@@ -98,8 +156,8 @@ pub extern "C" fn figure(plan: &[u8], limit: u64, answer: &mut [u8]) -> u64
     ensures { λ _. ⌜ now (answer .exit) ≡ figureOutcome (now (plan .entry)) limit (now (answer .entry)) .buffer ⌝ }
 {
     let v = figure_verdict(plan, limit, answer.len());
-    if let Verdict::Refused(_) = v {
-        return plan::returned(v);
+    if let CallVerdict::Refused(_) = v {
+        return call_returned(v);
     }
     let f = factoring::work(plan::network_of(plan), limit);
     put_answer(answer, f.low, f.high, f.steps, f.finished);
@@ -111,9 +169,9 @@ pub extern "C" fn importance(plan: &[u8], place: u64, limit: u64, answer: &mut [
     ensures { λ r. ⌜ r ≡ importanceOutcome (now (plan .entry)) place limit (now (answer .entry)) .returned ⌝ }
     ensures { λ _. ⌜ now (answer .exit) ≡ importanceOutcome (now (plan .entry)) place limit (now (answer .entry)) .buffer ⌝ }
 {
-    let v = importance_verdict(plan, place, limit, answer.len());
-    if let Verdict::Refused(_) = v {
-        return plan::returned(v);
+    let w = importance_verdict(plan, place, limit, answer.len());
+    if let CallVerdict::Refused(_) = w {
+        return call_returned(w);
     }
     let gain = factoring::importance(plan::network_of(plan), place as usize, limit);
     put_answer(answer, gain.low, gain.high, gain.steps, gain.finished);
@@ -125,13 +183,13 @@ pub extern "C" fn difference(first: &[u8], second: &[u8], limit: u64, answer: &m
     ensures { λ r. ⌜ r ≡ differenceOutcome (now (first .entry)) (now (second .entry)) limit (now (answer .entry)) .returned ⌝ }
     ensures { λ _. ⌜ now (answer .exit) ≡ differenceOutcome (now (first .entry)) (now (second .entry)) limit (now (answer .entry)) .buffer ⌝ }
 {
-    let v = figure_verdict(first, limit, answer.len());
-    if let Verdict::Refused(_) = v {
-        return plan::returned(v);
+    let a = figure_verdict(first, limit, answer.len());
+    if let CallVerdict::Refused(_) = a {
+        return call_returned(a);
     }
-    let w = plan::verdict_of(second);
-    if let Verdict::Refused(_) = w {
-        return plan::returned(w) + 20;
+    let b = second_verdict(second);
+    if let CallVerdict::Refused(_) = b {
+        return call_returned(b);
     }
     let d = factoring::difference(plan::network_of(first), plan::network_of(second), limit);
     put_answer(answer, bits_of(d.low), bits_of(d.high), d.steps, d.finished);

@@ -7,7 +7,7 @@ use Rattle.rounding.specs.Rounding.{quotient, product, parallel, either, series
 use Rattle.reliability.specs.Networks.{merge, label, every, connected}
 use Rattle.reliability.specs.Rule.{firstAt, places, firstPair, lowest, nextAt, deleteAt, without, leaves, grown, treeOf, run}
 use Rattle.reliability.specs.Comparisons.{soundAt}
-use Rattle.network.specs.Places.{from}
+use Rattle.search.specs.Searches.{from}
 use Rattle.plan.specs.Plans.{rated, linkVerdict, linksVerdict, verdict, linkIn, linksIn}
 use Rattle.plan.proofs.Examples.{listed}
 use Rattle.listing.specs.Listings.{text, decimalOf, meant, filled, linkLines, listing}

@@ -44,25 +44,25 @@ same-text true t b c = refl
 same-text false true b c = refl
 same-text false false b c = refl
 
--- the first 389 bytes tell as much as all of them
-module _ (b : List ℕ) where
+-- more than 388 bytes tell as much as all of them
+module _ (b : List ℕ) (k : ℕ) (more : 388 < k) where
   abbrev front : List ℕ
-  front = take 389 b
+  front = take k b
 
   same-sizes : sizesVerdict (sizeN front) (sizeM front) ≡ sizesVerdict (sizeN b) (sizeM b)
   same-sizes =
-      let byte : (i : ℕ) → i < 389 → getD front i 0 ≡ getD b i 0 = λ i h. getD-take 389 b i 0 h in
+      let byte : (i : ℕ) → i < k → getD front i 0 ≡ getD b i 0 = λ i h. getD-take k b i 0 h in
       let word : ℕ → ℕ → ℕ = λ x y. x + 256 * y in
       ap₂ sizesVerdict (ap₂ word (byte 0 (omega arith)) (byte 1 (omega arith))) (ap₂ word (byte 2 (omega arith)) (byte 3 (omega arith)))
 
-  pub enough : listing (take 389 b) ≡ listing b
+  pub enough : listing (take k b) ≡ listing b
   unfolding listing
-  enough = go (decLe (length b) 389)
+  enough = go (decLe (length b) k)
     where
-      go : Dec (length b ≤ 389) → listing (take 389 b) ≡ listing b
-      go (yes h) = ap listing (take-all 389 b h)
+      go : Dec (length b ≤ k) → listing (take k b) ≡ listing b
+      go (yes h) = ap listing (take-all k b h)
       go (no h) =
-          let l = length-take-le 389 b (omega arith) in
+          let l = length-take-le k b (omega arith) in
           let n = sizeN b in
           ap (λ (v : Verdict). listingBy v front) (too-long front (omega (arith, l)) ∙ same-sizes)
           ∙ same-text (eqb n 0 || ltb 32 n) (ltb 64 (sizeM b)) front b

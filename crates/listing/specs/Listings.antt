@@ -6,7 +6,7 @@ use mathlib.Core.Path.{_≡_}
 use mathlib.Core.List.{List, [], _∷_, _++_}
 use mathlib.Core.Bool.{Bool, true, false, cond, _&&_}
 use lib.Dec.{leb, ltb}
-use lib.ListN.{length, getD}
+use lib.ListN.{length, getD, take, drop}
 use lib.Seq.{sets}
 use Rattle.reliability.specs.declared.Link.{Link}
 use Rattle.reliability.specs.declared.Figure.{Figure}
@@ -91,3 +91,13 @@ listingBy (Refused c) plan = refusedLine c
 
 unfoldable pub listing : List ℕ → List ℕ
 listing plan = listingBy (verdict plan) plan
+
+-- ---- an input that is read into a buffer
+
+-- n bytes of the buffer are the input, or as much of it as the buffer holds
+abbrev pub IsRead : List ℕ → List ℕ → ℕ → Type 0
+IsRead input buffer n = take n buffer ≡ take (length buffer) input
+
+-- a text holds the listing of a plan, the bytes behind it as they were before, and its length is known
+abbrev pub Lists : List ℕ → List ℕ → List ℕ → ℕ → Type 0
+Lists plan before after size = (size ≡ length (listing plan)) × (after ≡ listing plan ++ drop (length (listing plan)) before)

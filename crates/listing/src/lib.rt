@@ -3,14 +3,17 @@ use plan::Cause;
 use plan::Verdict;
 use reliability::Figure;
 ghost use mathlib.Core.Path.{_≡_};
-ghost use mathlib.Core.List.{_++_};
-ghost use Prim.Native.Nat.{_+_, _≤_, _<_};
+ghost use mathlib.Core.List.{List, _++_};
+ghost use Prim.Native.Nat.{ℕ, _+_, _≤_, _<_};
 ghost use lib.ListN.{length, getD, drop};
 ghost use Rattle.plan.specs.Plans.{sizeM, verdict};
-ghost use Rattle.listing.specs.Listings.{Puts, decimal, isDigit, meant, filled, sizesLine, figureLine, lineOf, linkLines, refusedLine, listingBy, listing};
+ghost use Rattle.listing.specs.Listings.{Puts, decimal, isDigit, meant, filled, sizesLine, figureLine, lineOf, linkLines, refusedLine, listingBy, listing, IsRead, Lists};
 
 // The default limit.
 const LIMIT: u64 = 20_000;
+
+// As much as there is to read of an input: one byte more than the longest plan has.
+pub const INPUT: usize = 389;
 
 // A number in decimal from a place on. Each of these functions returns the place behind what it has written.
 fn put_decimal(text: &mut [u8], at: usize, x: u32) -> usize
@@ -103,7 +106,7 @@ fn put_links(text: &mut [u8], at: usize, plan: &[u8]) -> usize
     requires { ⌜ (verdict (now plan) ≡ Verdict.Accepted) × (at + length (linkLines (now plan) 0 (sizeM (now plan))) ≤ length (now text)) ⌝ }
     ensures { λ r. ⌜ Puts (now (text .entry)) at (linkLines (now (plan .entry)) 0 (sizeM (now (plan .entry)))) (now (text .exit)) r ⌝ }
 {
-    let m = plan::sizes_of(plan).m as usize;
+    let m = reader::sizes_of(plan).m as usize;
     let mut next = at;
     let mut i = 0;
     while i < m {
@@ -117,7 +120,7 @@ fn put_plan(text: &mut [u8], plan: &[u8]) -> usize
     requires { ⌜ (verdict (now plan) ≡ Verdict.Accepted) × (length (listingBy Verdict.Accepted (now plan)) ≤ length (now text)) ⌝ }
     ensures { λ r. ⌜ Puts (now (text .entry)) 0 (listingBy Verdict.Accepted (now (plan .entry))) (now (text .exit)) r ⌝ }
 {
-    let s = plan::sizes_of(plan);
+    let s = reader::sizes_of(plan);
     let f = factoring::work(plan::network_of(plan), LIMIT);
     let first = put_sizes(text, s.n, s.m);
     let second = put_figure(text, first, f);
@@ -146,4 +149,14 @@ pub fn listing(plan: &[u8], text: &mut [u8; 8192]) -> usize
         Verdict::Accepted => put_plan(text, plan),
         Verdict::Refused(c) => put_refusal(text, c),
     }
+}
+
+// The listing of an input, whatever its length, of which n bytes were read into the buffer.
+pub fn listing_of_input(buffer: &[u8; INPUT], n: usize, text: &mut [u8; 8192]) -> usize
+    requires { ⌜ n ≤ length (now buffer) ⌝ }
+    ensures { λ r. ⌜ r ≤ length (now (text .exit)) ⌝ }
+    ensures { λ r. ⌜ ((input : List ℕ) → IsRead input (now (buffer .entry)) n → Lists input (now (text .entry)) (now (text .exit)) r) ⌝ }
+{
+    let bytes: &[u8] = buffer;
+    listing(&bytes[..n], text)
 }

@@ -11,7 +11,6 @@ use Rattle.reliability.specs.declared.Step.the-variants.{OneNode, Disconnected,
 use Rattle.reliability.specs.Networks.{Network as Graph, Valid, linkAt}
 use Rattle.reliability.specs.Rule.{next}
 use Rattle.search.specs.Searches.{pick, nodesIn}
-unfoldable pub use Rattle.search.specs.Searches.{from}
 use Rattle.network.specs.declared.Network.{Network}
 
 -- how many of the places below p are set

@@ -13,8 +13,9 @@ use Rattle.reliability.specs.Comparisons.{importance}
 use Rattle.network.specs.declared.Network.{Network as Slots}
 use Rattle.plan.specs.declared.Verdict.the-variants.{Accepted}
 use Rattle.plan.specs.Plans.{sizeN, sizeM, firstEnd, secondEnd, verdict, linkIn, planOf}
-use Rattle.network.specs.Places.{from, networkOf, indexOf, Used, Built}
-use Rattle.network.proofs.Picks.{ascending-from, built-used, built-index}
+use Rattle.search.specs.Searches.{from}
+use Rattle.network.specs.Places.{networkOf, indexOf, Built}
+use Rattle.network.proofs.Picks.{ascending-from, built-index}
 use Rattle.plan.proofs.Links.{length-links, link-in, one-value, links-proper}
 
 pub length-from : (i k : ℕ) → length (from i k) ≡ k
@@ -55,8 +56,5 @@ module _ (b : List ℕ) where
   module _ (n : Slots) (is : networkOf n ≡ planOf b) where
     -- with its links at their places
     module _ (built : Built n (sizeM b)) (place : ℕ) (within : place < sizeM b) where
-      pub stands-plain : Equal (networkOf n) × Used n place
-      stands-plain = (subst Equal (sym is) plan-equal, built-used n (sizeM b) built place within)
-
       pub stands-importance : (limit : ℕ) → importance (networkOf n) (indexOf n place) limit ≡ importance (planOf b) place limit
       stands-importance limit = ap₂ (λ (h : Network) (k : ℕ). importance h k limit) is (built-index n (sizeM b) built place (le-of-lt within))

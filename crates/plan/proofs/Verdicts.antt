@@ -2,17 +2,16 @@
 use Prim.Native.Nat.{ℕ, zero, suc, _+_, _-_, _*_, _≤_, _<_, zero-le}
 use mathlib.Core.Path.{_≡_, refl, sym, ap, _∙_, subst}
 use mathlib.Core.List.{List}
-use mathlib.Core.Bool.{Bool, true, false, not, _||_, or-true, Bool-discrete}
+use mathlib.Core.Bool.{Bool, true, false, not, or-true, Bool-discrete}
 use mathlib.Core.Logic.{_⊎_, inl, inr, _↔_, by-cases}
 use native.Mathlib.Numerals.{add-one}
 use native.Mathlib.Omega.{arith}
 use native.Mathlib.Decide.{decLe, decLt, ℕ-discrete}
 use native.Mathlib.Nat.{le-refl}
-use lib.Dec.{eqb, leb, ltb}
 use lib.ListN.{length}
-use borrow.Author.Tests.{le-leb, lt-leb, lt-ltb, le-ltb, eq-eqb, ne-eqb, ltb-false}
+use borrow.Author.Tests.{le-leb, lt-leb, lt-ltb, le-ltb, eq-eqb, ne-eqb}
 use Rattle.plan.specs.declared.Cause.{Cause}
-use Rattle.plan.specs.declared.Cause.the-variants.{Limit, Buffer, Short, Nodes, Links, Length, End, Value, Place}
+use Rattle.plan.specs.declared.Cause.the-variants.{Short, Nodes, Links, Length, End, Value}
 use Rattle.plan.specs.declared.Verdict.{Verdict}
 use Rattle.plan.specs.declared.Verdict.the-variants.{Accepted, Refused}
 use Rattle.plan.specs.Plans.{sizeN, sizeM, firstEnd, secondEnd, fileValue, rated, isRated, refusedIf, also, linkVerdict, linksVerdict, verdict, WellFormedLink, WellFormed, number, returned}
@@ -75,7 +74,7 @@ module _ (b : List ℕ) where
 -- ---- accepted plans
 
 -- what is not refused for want of it
-pub kept : {P : Type 0} {v : Verdict} {c : Cause} → Dec P → v ≡ Accepted → ((P → ⊥) → v ≡ Refused c) → P
+kept : {P : Type 0} {v : Verdict} {c : Cause} → Dec P → v ≡ Accepted → ((P → ⊥) → v ≡ Refused c) → P
 kept (yes p) e r = p
 kept (no n) e r = let q = r n in let z : _≡_ {A = ℕ} 0 1 = cc in absurd (omega arith)
 
@@ -84,7 +83,7 @@ not-true-false {t = true} n = absurd (n refl)
 not-true-false {t = false} n = refl
 
 -- both verdicts of an accepted pair are accepted
-pub both-accepted : (u v : Verdict) → also u v ≡ Accepted → (u ≡ Accepted) × (v ≡ Accepted)
+both-accepted : (u v : Verdict) → also u v ≡ Accepted → (u ≡ Accepted) × (v ≡ Accepted)
 both-accepted Accepted v e = (refl, e)
 both-accepted (Refused c) v e = let z : _≡_ {A = ℕ} 0 1 = cc in absurd (omega arith)
 
@@ -136,50 +135,15 @@ module _ (b : List ℕ) where
 -- ---- the numbers returned
 
 -- the column Number
-pub number-range : (c : Cause) → (1 ≤ number c) × (number c ≤ 9)
+pub number-range : (c : Cause) → (1 ≤ number c) × (number c ≤ 6)
 number-range Short = omega arith
 number-range Nodes = omega arith
 number-range Links = omega arith
 number-range Length = omega arith
 number-range (End i) = omega arith
 number-range (Value i) = omega arith
-number-range Limit = omega arith
-number-range Place = omega arith
-number-range Buffer = omega arith
 
--- 0 is returned of nothing but an accepted plan
-pub zero-accepted : (v : Verdict) → returned v ≡ 0 → v ≡ Accepted
-zero-accepted Accepted e = refl
-zero-accepted (Refused c) e = absurd (omega (arith, number-range c))
-
-module _ (b : List ℕ) where
-  link-returned : (i : ℕ) → returned (linkVerdict b i) ≤ 6 + 256 * i
-  unfolding linkVerdict
-  link-returned i = go (leb (sizeN b) (firstEnd b i) || leb (sizeN b) (secondEnd b i)) (not (isRated (rated (fileValue b i))))
-    where
-      go : (s t : Bool) → returned (refusedIf s (End i) (refusedIf t (Value i) Accepted)) ≤ 6 + 256 * i
-      go true t = omega arith
-      go false true = omega arith
-      go false false = zero-le
-
-  links-returned : (i k : ℕ) → i + k ≤ 64 → returned (linksVerdict b i k) ≤ 6 + 256 * 63
-  unfolding linksVerdict
-  links-returned i zero h = zero-le
-  links-returned i (suc k) h = go (linkVerdict b i) (link-returned i) (links-returned (suc i) k (omega arith))
-    where
-      go : (v : Verdict) → returned v ≤ 6 + 256 * i → returned (linksVerdict b (suc i) k) ≤ 6 + 256 * 63 → returned (also v (linksVerdict b (suc i) k)) ≤ 6 + 256 * 63
-      go Accepted p q = q
-      go (Refused c) p q = omega arith
-
-  -- no plan is refused with more than 6 at link 63
-  pub returned-range : returned (verdict b) ≤ 6 + 256 * 63
-  unfolding verdict
-  returned-range =
-      go (ltb (length b) 4) (eqb (sizeN b) 0 || ltb 32 (sizeN b)) (ltb 64 (sizeM b)) (not (eqb (length b) (4 + 6 * sizeM b))) (ltb-false 64 (sizeM b))
-    where
-      go : (q r s t : Bool) → (s ≡ false → sizeM b ≤ 64) → returned (refusedIf q Short (refusedIf r Nodes (refusedIf s Links (refusedIf t Length (linksVerdict b 0 (sizeM b)))))) ≤ 6 + 256 * 63
-      go true r s t h = omega arith
-      go false true s t h = omega arith
-      go false false true t h = omega arith
-      go false false false true h = omega arith
-      go false false false false h = links-returned 0 (sizeM b) (omega (arith, h refl))
+-- 0 is returned of an accepted plan, and of no other
+pub zero-means : (v : Verdict) → returned v ≡ 0 ↔ v ≡ Accepted
+zero-means Accepted = (λ e. refl, λ h. refl)
+zero-means (Refused c) = (λ e. absurd (omega (arith, number-range c)), λ h. ap returned h)

@@ -4,46 +4,21 @@ use mathlib.Core.Path.{_≡_}
 use mathlib.Core.List.{List, [], _∷_}
 use mathlib.Core.Bool.{Bool, true, false, not, _&&_, _||_}
 use lib.Dec.{eqb, leb, ltb}
-use lib.ListN.{length, getD}
+use lib.ListN.{length}
+pub use Rattle.reader.specs.Layout.{sizeN, sizeM, firstEnd, secondEnd, fileValue}
 use Rattle.rounding.specs.Rounding.{S}
 use Rattle.ratings.specs.Ratings.{T}
 use Rattle.reliability.specs.declared.Link.{Link}
 use Rattle.reliability.specs.Networks.{Network, linked}
-use Rattle.network.specs.Places.{from}
+use Rattle.search.specs.Searches.{from}
 use Rattle.plan.specs.declared.Cause.{Cause}
-use Rattle.plan.specs.declared.Cause.the-variants.{Limit, Buffer, Short, Nodes, Links, Length, End, Value, Place}
+use Rattle.plan.specs.declared.Cause.the-variants.{Short, Nodes, Links, Length, End, Value}
 use Rattle.plan.specs.declared.Verdict.{Verdict}
 use Rattle.plan.specs.declared.Verdict.the-variants.{Accepted, Refused}
 use Rattle.plan.specs.declared.Rated.{Rated}
 use Rattle.plan.specs.declared.Rated.the-variants.{Units, Unrated}
 
--- ---- numbers in the file, little-endian
-
-abbrev pub byte : List ℕ → ℕ → ℕ
-byte b i = getD b i 0
-
-abbrev pub word16 : List ℕ → ℕ → ℕ
-word16 b i = byte b i + 256 * byte b (i + 1)
-
-abbrev pub word32 : List ℕ → ℕ → ℕ
-word32 b i = word16 b i + 65536 * word16 b (i + 2)
-
--- n and m, the sizes
-abbrev pub sizeN : List ℕ → ℕ
-sizeN b = word16 b 0
-
-abbrev pub sizeM : List ℕ → ℕ
-sizeM b = word16 b 2
-
--- the two ends of link i, and its value as it stands in the file
-abbrev pub firstEnd : List ℕ → ℕ → ℕ
-firstEnd b i = byte b (4 + 2 * i)
-
-abbrev pub secondEnd : List ℕ → ℕ → ℕ
-secondEnd b i = byte b (5 + 2 * i)
-
-abbrev pub fileValue : List ℕ → ℕ → ℕ
-fileValue b i = word32 b (4 + 2 * sizeM b + 4 * i)
+-- ---- what the file's values stand for
 
 -- a value up to S is in units; 2,147,483,648 + k, k up to 511, is a length of k hundred metres and stands for T[k]
 abbrev pub ratedBy : (inUnits isLength : Bool) → ℕ → Rated
@@ -119,9 +94,6 @@ number Links = 3
 number Length = 4
 number (End i) = 5
 number (Value i) = 6
-number Limit = 7
-number Place = 8
-number Buffer = 9
 
 -- the link that a cause names, or 0
 abbrev pub namedLink : Cause → ℕ
@@ -131,9 +103,6 @@ namedLink Links = 0
 namedLink Length = 0
 namedLink (End i) = i
 namedLink (Value i) = i
-namedLink Limit = 0
-namedLink Place = 0
-namedLink Buffer = 0
 
 -- the column Returned
 abbrev pub returned : Verdict → ℕ

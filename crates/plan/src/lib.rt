@@ -1,10 +1,11 @@
-// The plan file: sizes, ends and values in little-endian bytes, the causes of refusal, and the network of an accepted plan.
+// The plan file: what its values stand for, the causes of refusal, and the network of an accepted plan.
 use network::Network;
 use reliability::Link;
 ghost use mathlib.Core.Path.{_≡_};
-ghost use Prim.Native.Nat.{_+_, _*_, _≤_, _<_};
+ghost use Prim.Native.Nat.{_+_, _*_, _<_};
 ghost use lib.ListN.{length};
-ghost use Rattle.plan.specs.Plans.{byte, word16, word32, sizeN, sizeM, firstEnd, secondEnd, fileValue, rated, unitsOf, linkVerdict, linksVerdict, verdict, number, namedLink, returned, linkIn, planOf};
+ghost use Rattle.reader.specs.Layout.{sizeM};
+ghost use Rattle.plan.specs.Plans.{rated, unitsOf, linkVerdict, linksVerdict, verdict, number, namedLink, returned, linkIn, planOf};
 ghost use Rattle.network.specs.Places.{networkOf, Built, Invariant};
 
 // S.
@@ -13,17 +14,14 @@ const UNITS: u32 = 1_000_000_000;
 // A value from here on is a length.
 const LENGTHS: u32 = 2_147_483_648;
 
-// Why a call is refused.
+// Why a plan is refused.
 pub enum Cause {
-    Limit,
-    Buffer,
     Short,
     Nodes,
     Links,
     Length,
     End(u16),
     Value(u16),
-    Place,
 }
 
 pub enum Verdict {
@@ -35,126 +33,6 @@ pub enum Verdict {
 pub enum Rated {
     Units(u32),
     Unrated,
-}
-
-pub struct Sizes {
-    pub n: u16,
-    pub m: u16,
-}
-
-// The lent plan and the position of what is read next.
-pub struct Reader<'a> {
-    pub plan: &'a [u8],
-    pub at: usize,
-}
-
-// A link as it stands in the file.
-struct Entry {
-    pub a: u8,
-    pub b: u8,
-    pub value: u32,
-}
-
-// The number in one, two and four bytes of a plan, the lowest byte first.
-fn byte(s: &[u8], at: usize) -> u8
-    requires { ⌜ at + 1 ≤ length (now s) ⌝ }
-    ensures { λ r. ⌜ r ≡ byte (now (s .entry)) at ⌝ }
-{
-    s[at]
-}
-
-fn word16(s: &[u8], at: usize) -> u16
-    requires { ⌜ at + 2 ≤ length (now s) ⌝ }
-    ensures { λ r. ⌜ r ≡ word16 (now (s .entry)) at ⌝ }
-{
-    let low = s[at] as u16;
-    let high = s[at + 1] as u16;
-    low + 256 * high
-}
-
-fn word32(s: &[u8], at: usize) -> u32
-    requires { ⌜ at + 4 ≤ length (now s) ⌝ }
-    ensures { λ r. ⌜ r ≡ word32 (now (s .entry)) at ⌝ }
-{
-    let low = word16(s, at) as u32;
-    let high = word16(s, at + 2) as u32;
-    low + 65_536 * high
-}
-
-impl<'a> Reader<'a> {
-    // At the start.
-    pub fn new(plan: &'a [u8]) -> Reader<'a>
-        ensures { λ r. ⌜ (r .plan ≡ plan .entry) × (r .at ≡ 0) ⌝ }
-    {
-        Reader { plan, at: 0 }
-    }
-
-    // Moved on by k bytes.
-    pub fn advanced(self, k: usize) -> Reader<'a>
-        requires { ⌜ self .at + k ≤ length (now (self .plan)) ⌝ }
-        ensures { λ r. ⌜ (r .plan ≡ self .entry .plan) × (r .at ≡ self .entry .at + k) ⌝ }
-    {
-        Reader {
-            plan: self.plan,
-            at: self.at + k,
-        }
-    }
-
-    // What stands at its position.
-    pub fn byte(self) -> u8
-        requires { ⌜ self .at + 1 ≤ length (now (self .plan)) ⌝ }
-        ensures { λ r. ⌜ r ≡ byte (now (self .entry .plan)) (self .entry .at) ⌝ }
-    {
-        byte(self.plan, self.at)
-    }
-
-    pub fn word16(self) -> u16
-        requires { ⌜ self .at + 2 ≤ length (now (self .plan)) ⌝ }
-        ensures { λ r. ⌜ r ≡ word16 (now (self .entry .plan)) (self .entry .at) ⌝ }
-    {
-        word16(self.plan, self.at)
-    }
-
-    pub fn word32(self) -> u32
-        requires { ⌜ self .at + 4 ≤ length (now (self .plan)) ⌝ }
-        ensures { λ r. ⌜ r ≡ word32 (now (self .entry .plan)) (self .entry .at) ⌝ }
-    {
-        word32(self.plan, self.at)
-    }
-}
-
-// n and m.
-pub fn sizes_of(plan: &[u8]) -> Sizes
-    requires { ⌜ 4 ≤ length (now plan) ⌝ }
-    ensures { λ r. ⌜ (r .n ≡ sizeN (now (plan .entry))) × (r .m ≡ sizeM (now (plan .entry))) ⌝ }
-{
-    let r = Reader::new(plan);
-    let n = r.word16();
-    let m = r.advanced(2).word16();
-    Sizes { n, m }
-}
-
-// The entry whose ends and value stand at two positions.
-fn entry_from(plan: &[u8], ends: usize, value: usize) -> Entry
-    requires { ⌜ (ends + 2 ≤ length (now plan)) × (value + 4 ≤ length (now plan)) ⌝ }
-    ensures { λ r. ⌜ (r .a ≡ byte (now (plan .entry)) ends) × (r .b ≡ byte (now (plan .entry)) (ends + 1)) × (r .value ≡ word32 (now (plan .entry)) value) ⌝ }
-{
-    let start = Reader::new(plan);
-    let first = start.advanced(ends);
-    let second = first.advanced(1);
-    let last = start.advanced(value);
-    let a = first.byte();
-    let b = second.byte();
-    let v = last.word32();
-    Entry { a, b, value: v }
-}
-
-fn entry_at(plan: &[u8], i: usize) -> Entry
-    requires { ⌜ (i < sizeM (now plan)) × (length (now plan) ≡ 4 + 6 * sizeM (now plan)) ⌝ }
-    ensures { λ r. ⌜ (r .a ≡ firstEnd (now (plan .entry)) i) × (r .b ≡ secondEnd (now (plan .entry)) i) × (r .value ≡ fileValue (now (plan .entry)) i) ⌝ }
-{
-    let m = sizes_of(plan).m as usize;
-    entry_from(plan, 4 + 2 * i, 4 + 2 * m + 4 * i)
 }
 
 fn stands_for(w: u32) -> Rated
@@ -188,8 +66,8 @@ fn link_verdict(plan: &[u8], i: usize) -> Verdict
     requires { ⌜ (i < sizeM (now plan)) × (length (now plan) ≡ 4 + 6 * sizeM (now plan)) ⌝ }
     ensures { λ r. ⌜ r ≡ linkVerdict (now (plan .entry)) i ⌝ }
 {
-    let n = sizes_of(plan).n;
-    let e = entry_at(plan, i);
+    let n = reader::sizes_of(plan).n;
+    let e = reader::entry_at(plan, i);
     if n <= (e.a as u16) || n <= (e.b as u16) {
         return Verdict::Refused(Cause::End(i as u16));
     }
@@ -203,7 +81,7 @@ fn links_verdict(plan: &[u8]) -> Verdict
     requires { ⌜ length (now plan) ≡ 4 + 6 * sizeM (now plan) ⌝ }
     ensures { λ r. ⌜ r ≡ linksVerdict (now (plan .entry)) 0 (sizeM (now (plan .entry))) ⌝ }
 {
-    let m = sizes_of(plan).m as usize;
+    let m = reader::sizes_of(plan).m as usize;
     let mut i = 0;
     while i < m {
         if let Verdict::Refused(c) = link_verdict(plan, i) {
@@ -221,7 +99,7 @@ pub fn verdict_of(plan: &[u8]) -> Verdict
     if plan.len() < 4 {
         return Verdict::Refused(Cause::Short);
     }
-    let s = sizes_of(plan);
+    let s = reader::sizes_of(plan);
     if s.n == 0 || 32 < s.n {
         return Verdict::Refused(Cause::Nodes);
     }
@@ -245,9 +123,6 @@ pub fn number_of(c: Cause) -> u8
         Cause::Length => 4,
         Cause::End(_) => 5,
         Cause::Value(_) => 6,
-        Cause::Limit => 7,
-        Cause::Place => 8,
-        Cause::Buffer => 9,
     }
 }
 
@@ -262,9 +137,6 @@ pub fn named_link(c: Cause) -> u16
         Cause::Length => 0,
         Cause::End(i) => i,
         Cause::Value(i) => i,
-        Cause::Limit => 0,
-        Cause::Place => 0,
-        Cause::Buffer => 0,
     }
 }
 
@@ -283,7 +155,7 @@ pub fn link_at(plan: &[u8], i: usize) -> Link
     requires { ⌜ (verdict (now plan) ≡ Verdict.Accepted) × (i < sizeM (now plan)) ⌝ }
     ensures { λ r. ⌜ r ≡ linkIn (now (plan .entry)) i ⌝ }
 {
-    let e = entry_at(plan, i);
+    let e = reader::entry_at(plan, i);
     let value = units_of(stands_for(e.value));
     Link {
         a: e.a,
@@ -298,7 +170,7 @@ pub fn network_of(plan: &[u8]) -> Network
     requires { ⌜ verdict (now plan) ≡ Verdict.Accepted ⌝ }
     ensures { λ r. ⌜ (networkOf r ≡ planOf (now (plan .entry))) × Built r (sizeM (now (plan .entry))) × Invariant r ⌝ }
 {
-    let s = sizes_of(plan);
+    let s = reader::sizes_of(plan);
     let m = s.m as usize;
     let mut net = Network::new(s.n as u32);
     let mut i = 0;

@@ -1,19 +1,19 @@
-use borrow.Author.Tests.{le-leb, lt-leb}
+use borrow.Author.Tests.{le-ltb, lt-ltb}
 use Rattle.desk.specs.Outcomes.{asked}
 use Rattle.desk.proofs.asked_verdict.Statement.{statement}
 use Rattle.desk.proofs.asked_verdict.Tie as tie
 
 returns : tie.Need-returns
 unfolding asked
-returns c = simp (lt-leb _ _ (c .if1 .taken))
+returns c = simp (lt-ltb _ _ (c .if1 .taken))
 
 returns-2 : tie.Need-returns-2
 unfolding asked
-returns-2 c = simp (le-leb _ _ (c .before .if1 .left), lt-leb _ _ (c .if2 .taken))
+returns-2 c = simp (le-ltb _ _ (c .before .if1 .left), lt-ltb _ _ (c .if2 .taken))
 
 returns-3 : tie.Need-returns-3
 unfolding asked
-returns-3 c = simp (le-leb _ _ (c .before .if1 .left), le-leb _ _ (c .if2 .left))
+returns-3 c = simp (le-ltb _ _ (c .before .if1 .left), le-ltb _ _ (c .if2 .left))
 
 pub asked-verdict-spec : {M : Type 1} → statement M
 asked-verdict-spec = tie.close (tie.spec returns returns-2 returns-3)

@@ -1,4 +1,4 @@
-use Prim.Native.Nat.{ℕ, _+_, _≤_}
+use Prim.Native.Nat.{ℕ, _≤_}
 use mathlib.Core.Path.{_≡_, sym, ap, ap₂, _∙_}
 use native.Mathlib.Omega.{arith}
 use mir.Syntax.{w32}
@@ -7,14 +7,20 @@ use lib.ListN.{length}
 use Rattle.reliability.specs.declared.Difference.{Difference}
 use Rattle.reliability.specs.Networks.{Network as Graph}
 use Rattle.reliability.specs.Comparisons.{difference}
-use Rattle.plan.specs.declared.Verdict.the-variants.{Accepted}
-use Rattle.plan.specs.Plans.{verdict, returned, planOf}
-use Rattle.desk.specs.Outcomes.{asked, figureVerdict, unlessSecond, accepted, answered, twos, withDifference, Outcome, differenceOutcome}
-use Rattle.desk.proofs.Calls.{asked-accepted, refused, refused-second, answers, answers-second}
-use Rattle.plan.proofs.Verdicts.{returned-range, both-accepted}
+use Rattle.plan.specs.declared.Verdict.the-variants.{Accepted as PlanAccepted}
+use Rattle.plan.specs.Plans.{verdict, planOf}
+use Rattle.desk.specs.declared.CallCause.{CallCause}
+use Rattle.desk.specs.declared.CallVerdict.{CallVerdict}
+use Rattle.desk.specs.declared.CallVerdict.the-variants.{Accepted, Refused}
+use Rattle.desk.specs.Outcomes.{callReturned, asked, planned, plannedSecond, also, figureVerdict, differenceVerdict, answered, twos, withDifference, differenceOutcome}
+use Rattle.desk.proofs.Calls.{asked-means, planned-means, second-means, also-means, refused, answers}
 use borrow.Author.Needs.{needs}
 use Rattle.desk.proofs.difference.Statement.{statement}
 use Rattle.desk.proofs.difference.Tie as tie
+
+-- where plan A's call is refused, so is the difference, for the same cause
+same-cause : (v u w : CallVerdict) (c : CallCause) → v ≡ u → v ≡ Refused c → (v ≡ also u w) × (also u w ≡ Refused c)
+same-cause v u w c p e = let k = ap (λ (x : CallVerdict). also x w) (sym p ∙ e) in (e ∙ sym k, k)
 
 figure-verdict-requires : tie.Need-figure-verdict-requires
 figure-verdict-requires c κs = search needs
@@ -22,54 +28,55 @@ figure-verdict-requires c κs = search needs
 enum-told : tie.Need-enum-told
 enum-told c = search needs
 
-returned-requires : tie.Need-returned-requires
-returned-requires c κs = search needs
+call-returned-requires : tie.Need-call-returned-requires
+call-returned-requires c κs = search needs
 
 returns : tie.Need-returns
 unfolding differenceOutcome
 returns c =
     let v = c .before .before .before .figure-verdict in
     let a = c .before .before .before .before .before .before .before .args in
-    let r = refused (figureVerdict (a .first .now) (a .limit) (length (a .answer .now))) _ (a .answer .now) (unlessSecond (verdict (a .second .now)) (a .answer .now) (accepted (withDifference (difference (planOf (a .first .now)) (planOf (a .second .now)) (a .limit)) (a .answer .now)))) (sym (v .ensures) ∙ c .before .enum-told .given .1) in
-    (c .returned .ensures ∙ ap returned (v .ensures) ∙ r .0, r .1)
+    let k = same-cause _ (figureVerdict (a .first .now) (a .limit) (length (a .answer .now))) (plannedSecond (verdict (a .second .now))) _ (v .ensures) (c .before .enum-told .given .1) in
+    let r = refused (differenceVerdict (a .first .now) (a .second .now) (a .limit) (length (a .answer .now))) (a .answer .now) (withDifference (difference (planOf (a .first .now)) (planOf (a .second .now)) (a .limit)) (a .answer .now)) _ (k .1) in
+    (c .call-returned .ensures ∙ ap callReturned (k .0) ∙ r .0, r .1)
 
 enum-told-2 : tie.Need-enum-told-2
 enum-told-2 c = search needs
 
-verdict-of-requires : tie.Need-verdict-of-requires
-verdict-of-requires c κs = search needs
+second-verdict-requires : tie.Need-second-verdict-requires
+second-verdict-requires c κs = search needs
 
 enum-told-3 : tie.Need-enum-told-3
 enum-told-3 c = search needs
 
-returned-requires-2 : tie.Need-returned-requires-2
-returned-requires-2 c κs = search needs
+call-returned-requires-2 : tie.Need-call-returned-requires-2
+call-returned-requires-2 c κs = search needs
 
 first-ok : (c : tie.After-enum-told2) → let a = c .before .before .before .before .before .before .args in figureVerdict (a .first .now) (a .limit) (length (a .answer .now)) ≡ Accepted
 first-ok c = sym (c .before .before .figure-verdict .ensures) ∙ c .enum-told2 .given .1
 
 -- the limit and the buffer were accepted, and then the first plan
-asks : (c : tie.After-enum-told2) → let a = c .before .before .before .before .before .before .args in (a .limit ≤ 1000000) × (16 ≤ length (a .answer .now)) × (verdict (a .first .now) ≡ Accepted)
+asks : (c : tie.After-enum-told2) → let a = c .before .before .before .before .before .before .args in (a .limit ≤ 1000000) × (16 ≤ length (a .answer .now)) × (verdict (a .first .now) ≡ PlanAccepted)
 asks c =
     let a = c .before .before .before .before .before .before .args in
-    let (x, y) = both-accepted (asked (a .limit) (length (a .answer .now))) (verdict (a .first .now)) (first-ok c) in
-    let (l, r) = asked-accepted (a .limit) (length (a .answer .now)) x in
-    (l, r, y)
+    let (x, y) = also-means (asked (a .limit) (length (a .answer .now))) (planned (verdict (a .first .now))) .0 (first-ok c) in
+    let (l, r) = asked-means (a .limit) (length (a .answer .now)) .0 x in
+    (l, r, planned-means (verdict (a .first .now)) .0 y)
 
-second-ok : (c : tie.After-enum-told4) → verdict (c .before .before .before .before .before .before .before .before .before .args .second .now) ≡ Accepted
-second-ok c = sym (c .before .before .verdict-of .ensures) ∙ c .enum-told4 .given .1
+second-fine : (c : tie.After-enum-told4) → plannedSecond (verdict (c .before .before .before .before .before .before .before .before .before .args .second .now)) ≡ Accepted
+second-fine c = sym (c .before .before .second-verdict .ensures) ∙ c .enum-told4 .given .1
 
-add-result : tie.Need-add-result
-add-result c = let r = returned-range (c .before .before .before .before .before .before .before .before .before .before .args .second .now) in omega (arith, c .returned2 .ensures ∙ ap returned (c .before .before .before .verdict-of .ensures))
+second-ok : (c : tie.After-enum-told4) → verdict (c .before .before .before .before .before .before .before .before .before .args .second .now) ≡ PlanAccepted
+second-ok c = second-means (verdict (c .before .before .before .before .before .before .before .before .before .args .second .now)) .0 (second-fine c)
 
 returns-2 : tie.Need-returns-2
 unfolding differenceOutcome
 returns-2 c =
-    let v = c .before .before .before .verdict-of in
+    let v = c .before .before .before .second-verdict in
     let a = c .before .before .before .before .before .before .before .before .before .before .args in
-    let e = answers (figureVerdict (a .first .now) (a .limit) (length (a .answer .now))) (a .answer .now) (unlessSecond (verdict (a .second .now)) (a .answer .now) (accepted (withDifference (difference (planOf (a .first .now)) (planOf (a .second .now)) (a .limit)) (a .answer .now)))) (first-ok (c .before .before .before .before)) in
-    let r = refused-second (verdict (a .second .now)) _ (a .answer .now) (accepted (withDifference (difference (planOf (a .first .now)) (planOf (a .second .now)) (a .limit)) (a .answer .now))) (sym (v .ensures) ∙ c .before .enum-told3 .given .1) in
-    (ap (λ (k : ℕ). k + 20) (c .returned2 .ensures ∙ ap returned (v .ensures)) ∙ r .0 ∙ ap (λ (o : Outcome). o .returned) e, r .1 ∙ ap (λ (o : Outcome). o .buffer) e)
+    let e = ap (λ (u : CallVerdict). also u (plannedSecond (verdict (a .second .now)))) (first-ok (c .before .before .before .before)) in
+    let r = refused (differenceVerdict (a .first .now) (a .second .now) (a .limit) (length (a .answer .now))) (a .answer .now) (withDifference (difference (planOf (a .first .now)) (planOf (a .second .now)) (a .limit)) (a .answer .now)) _ (e ∙ sym (v .ensures) ∙ c .before .enum-told3 .given .1) in
+    (c .call-returned2 .ensures ∙ ap callReturned (v .ensures ∙ sym e) ∙ r .0, r .1)
 
 enum-told-4 : tie.Need-enum-told-4
 enum-told-4 c = search needs
@@ -78,7 +85,10 @@ network-of-requires : tie.Need-network-of-requires
 network-of-requires c κs = asks (c .before .before .before) .2
 
 network-of-requires-2 : tie.Need-network-of-requires-2
-network-of-requires-2 c κs = second-ok (c .before)
+network-of-requires-2 c κs =
+    let f = asks (c .before .before .before .before) .2 in
+    let s = second-ok (c .before) in
+    search needs
 
 difference-requires : tie.Need-difference-requires
 difference-requires c κs =
@@ -103,13 +113,13 @@ returns-3 c =
     let a = c .before .before .before .before .before .before .before .before .before .before .before .before .before .before .before .before .before .before .before .before .args in
     let b = a .answer .now in
     let known = c .before .before .before .before .before .before .struct-told .given in
-    let e = answers (figureVerdict (a .first .now) (a .limit) (length (a .answer .now))) b (unlessSecond (verdict (a .second .now)) (a .answer .now) (accepted (withDifference (difference (planOf (a .first .now)) (planOf (a .second .now)) (a .limit)) (a .answer .now)))) (first-ok (c .before .before .before .before .before .before .before .before .before .before .before .before .before .before)) in
-    let f = answers-second (verdict (a .second .now)) b (accepted (withDifference (difference (planOf (a .first .now)) (planOf (a .second .now)) (a .limit)) (a .answer .now))) (second-ok (c .before .before .before .before .before .before .before .before .before .before .before)) in
+    let ok = also-means (figureVerdict (a .first .now) (a .limit) (length (a .answer .now))) (plannedSecond (verdict (a .second .now))) .1 (first-ok (c .before .before .before .before .before .before .before .before .before .before .before .before .before .before), second-fine (c .before .before .before .before .before .before .before .before .before .before .before)) in
+    let e = answers (differenceVerdict (a .first .now) (a .second .now) (a .limit) (length (a .answer .now))) b (withDifference (difference (planOf (a .first .now)) (planOf (a .second .now)) (a .limit)) b) ok in
     let d = c .before .before .before .before .before .before .before .before .difference .ensures ∙ ap₂ (λ (g h : Graph). difference g h (a .limit)) (c .before .before .before .before .before .before .before .before .before .before .network-of .ensures .0) (c .before .before .before .before .before .before .before .before .before .network-of2 .ensures .0) in (
-      ap (λ (o : Outcome). o .returned) (f ∙ e),
+      e .0,
       c .before .before .put-answer .ensures
           ∙ ap₂ (λ (l h : ℕ). answered l h (c .before .before .before .before .before .before .before .before .difference .result .steps) (c .before .before .before .before .before .before .before .before .difference .result .finished) b) (c .before .before .before .before .before .bits-of .ensures ∙ ap twos (toZ-ofZ {w = w32} {z = c .before .before .before .before .before .before .before .before .difference .result .low} (record { sfits = known .0 .1 }))) (c .before .before .before .bits-of2 .ensures ∙ ap twos (toZ-ofZ {w = w32} {z = c .before .before .before .before .before .before .before .before .difference .result .high} (record { sfits = known .1 .0 .1 })))
-          ∙ ap (λ (x : Difference). withDifference x b) d ∙ ap (λ (o : Outcome). o .buffer) (f ∙ e),
+          ∙ ap (λ (x : Difference). withDifference x b) d ∙ e .1,
     )
 
 pub difference-spec : {M : Type 1} → statement M
@@ -118,13 +128,12 @@ difference-spec =
     (tie.spec
     figure-verdict-requires
     enum-told
-    returned-requires
+    call-returned-requires
     returns
     enum-told-2
-    verdict-of-requires
+    second-verdict-requires
     enum-told-3
-    returned-requires-2
-    add-result
+    call-returned-requires-2
     returns-2
     enum-told-4
     network-of-requires

@@ -5,11 +5,11 @@ use lib.ListN.{length}
 use Rattle.reliability.specs.declared.Figure.{Figure}
 use Rattle.reliability.specs.Networks.{Network as Graph}
 use Rattle.reliability.specs.Rule.{figure}
-use Rattle.plan.specs.declared.Verdict.the-variants.{Accepted}
-use Rattle.plan.specs.Plans.{verdict, returned, planOf}
-use Rattle.desk.specs.Outcomes.{asked, figureVerdict, figureOutcome, accepted, withFigure, Outcome}
-use Rattle.plan.proofs.Verdicts.{both-accepted}
-use Rattle.desk.proofs.Calls.{asked-accepted, refused, answers}
+use Rattle.plan.specs.declared.Verdict.the-variants.{Accepted as PlanAccepted}
+use Rattle.plan.specs.Plans.{verdict, planOf}
+use Rattle.desk.specs.declared.CallVerdict.the-variants.{Accepted}
+use Rattle.desk.specs.Outcomes.{callReturned, asked, planned, figureVerdict, figureOutcome, withFigure}
+use Rattle.desk.proofs.Calls.{asked-means, planned-means, also-means, refused, answers}
 use borrow.Author.Needs.{needs}
 use Rattle.desk.proofs.figure.Statement.{statement}
 use Rattle.desk.proofs.figure.Tie as tie
@@ -20,16 +20,16 @@ figure-verdict-requires c κs = search needs
 enum-told : tie.Need-enum-told
 enum-told c = search needs
 
-returned-requires : tie.Need-returned-requires
-returned-requires c κs = search needs
+call-returned-requires : tie.Need-call-returned-requires
+call-returned-requires c κs = search needs
 
 returns : tie.Need-returns
 unfolding figureOutcome
 returns c =
     let v = c .before .before .before .figure-verdict in
     let a = c .before .before .before .before .before .before .args in
-    let r = refused (figureVerdict (a .plan .now) (a .limit) (length (a .answer .now))) _ (a .answer .now) (accepted (withFigure (figure (planOf (a .plan .now)) (a .limit)) (a .answer .now))) (sym (v .ensures) ∙ c .before .enum-told .given .1) in
-    (c .returned .ensures ∙ ap returned (v .ensures) ∙ r .0, r .1)
+    let r = refused (figureVerdict (a .plan .now) (a .limit) (length (a .answer .now))) (a .answer .now) (withFigure (figure (planOf (a .plan .now)) (a .limit)) (a .answer .now)) _ (sym (v .ensures) ∙ c .before .enum-told .given .1) in
+    (c .call-returned .ensures ∙ ap callReturned (v .ensures) ∙ r .0, r .1)
 
 enum-told-2 : tie.Need-enum-told-2
 enum-told-2 c = search needs
@@ -38,12 +38,12 @@ ok : (c : tie.After-enum-told2) → let a = c .before .before .before .before .b
 ok c = sym (c .before .before .figure-verdict .ensures) ∙ c .enum-told2 .given .1
 
 -- the limit and the buffer were accepted, and then the plan
-asks : (c : tie.After-enum-told2) → let a = c .before .before .before .before .before .args in (a .limit ≤ 1000000) × (16 ≤ length (a .answer .now)) × (verdict (a .plan .now) ≡ Accepted)
+asks : (c : tie.After-enum-told2) → let a = c .before .before .before .before .before .args in (a .limit ≤ 1000000) × (16 ≤ length (a .answer .now)) × (verdict (a .plan .now) ≡ PlanAccepted)
 asks c =
     let a = c .before .before .before .before .before .args in
-    let (x, y) = both-accepted (asked (a .limit) (length (a .answer .now))) (verdict (a .plan .now)) (ok c) in
-    let (l, r) = asked-accepted (a .limit) (length (a .answer .now)) x in
-    (l, r, y)
+    let (x, y) = also-means (asked (a .limit) (length (a .answer .now))) (planned (verdict (a .plan .now))) .0 (ok c) in
+    let (l, r) = asked-means (a .limit) (length (a .answer .now)) .0 x in
+    (l, r, planned-means (verdict (a .plan .now)) .0 y)
 
 network-of-requires : tie.Need-network-of-requires
 network-of-requires c κs = asks c .2
@@ -64,9 +64,9 @@ unfolding figureOutcome
 returns-2 c =
     let a = c .before .before .before .before .before .before .before .before .before .before .before .args in
     let b = a .answer .now in
-    let e = answers (figureVerdict (a .plan .now) (a .limit) (length (a .answer .now))) b (accepted (withFigure (figure (planOf (a .plan .now)) (a .limit)) b)) (ok (c .before .before .before .before .before .before)) in (
-      ap (λ (o : Outcome). o .returned) e,
-      c .before .before .put-answer .ensures ∙ ap (λ (f : Figure). withFigure f b) (c .before .before .before .before .work .ensures ∙ ap (λ (h : Graph). figure h (a .limit)) (c .before .before .before .before .before .network-of .ensures .0)) ∙ ap (λ (o : Outcome). o .buffer) e,
+    let e = answers (figureVerdict (a .plan .now) (a .limit) (length (a .answer .now))) b (withFigure (figure (planOf (a .plan .now)) (a .limit)) b) (ok (c .before .before .before .before .before .before)) in (
+      e .0,
+      c .before .before .put-answer .ensures ∙ ap (λ (f : Figure). withFigure f b) (c .before .before .before .before .work .ensures ∙ ap (λ (h : Graph). figure h (a .limit)) (c .before .before .before .before .before .network-of .ensures .0)) ∙ e .1,
     )
 
 pub figure-spec : {M : Type 1} → statement M
@@ -75,7 +75,7 @@ figure-spec =
     (tie.spec
     figure-verdict-requires
     enum-told
-    returned-requires
+    call-returned-requires
     returns
     enum-told-2
     network-of-requires

@@ -1,6 +1,7 @@
 use mathlib.Core.Path.{sym, ap, _∙_}
-use Rattle.plan.specs.declared.Verdict.{Verdict}
-use Rattle.plan.specs.Plans.{also, verdict}
+use Rattle.desk.specs.declared.CallVerdict.{CallVerdict}
+use Rattle.plan.specs.Plans.{verdict}
+use Rattle.desk.specs.Outcomes.{planned, also}
 use borrow.Author.Needs.{needs}
 use Rattle.desk.proofs.figure_verdict.Statement.{statement}
 use Rattle.desk.proofs.figure_verdict.Tie as tie
@@ -11,19 +12,19 @@ asked-verdict-requires c κs = search needs
 enum-told : tie.Need-enum-told
 enum-told c = search needs
 
-verdict-of-requires : tie.Need-verdict-of-requires
-verdict-of-requires c κs = search needs
+plan-verdict-requires : tie.Need-plan-verdict-requires
+plan-verdict-requires c κs = search needs
 
 enum-known-c : tie.Need-enum-known-c
 enum-known-c c = search needs
 
 returns : tie.Need-returns
-returns c = c .verdict-of .ensures ∙ ap (λ (u : Verdict). also u (verdict (c .before .before .before .before .before .args .plan .now))) (sym (sym (c .before .before .before .asked-verdict .ensures) ∙ c .before .enum-told .given .1))
+returns c = c .plan-verdict .ensures ∙ ap (λ (u : CallVerdict). also u (planned (verdict (c .before .before .before .before .before .args .plan .now)))) (sym (sym (c .before .before .before .asked-verdict .ensures) ∙ c .before .enum-told .given .1))
 
 returns-2 : tie.Need-returns-2
-returns-2 c = ap (λ (u : Verdict). also u (verdict (c .before .before .before .before .before .args .plan .now))) (sym (c .before .c .given .1) ∙ c .before .before .before .asked-verdict .ensures)
+returns-2 c = ap (λ (u : CallVerdict). also u (planned (verdict (c .before .before .before .before .before .args .plan .now)))) (sym (c .before .c .given .1) ∙ c .before .before .before .asked-verdict .ensures)
 
 pub figure-verdict-spec : {M : Type 1} → statement M
 figure-verdict-spec =
     tie.close
-    (tie.spec asked-verdict-requires enum-told verdict-of-requires enum-known-c returns returns-2)
+    (tie.spec asked-verdict-requires enum-told plan-verdict-requires enum-known-c returns returns-2)

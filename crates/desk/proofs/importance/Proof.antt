@@ -4,12 +4,13 @@ use native.Mathlib.Omega.{arith}
 use lib.ListN.{length}
 use Rattle.reliability.specs.declared.Figure.{Figure}
 use Rattle.reliability.specs.Comparisons.{importance}
-use Rattle.plan.specs.declared.Verdict.the-variants.{Accepted}
-use Rattle.plan.specs.Plans.{sizeM, verdict, returned, planOf}
-use Rattle.plan.proofs.Accepted.{stands-plain, stands-importance}
-use Rattle.desk.specs.Outcomes.{asked, placed, figureVerdict, importanceVerdict, importanceOutcome, accepted, withFigure, Outcome}
-use Rattle.plan.proofs.Verdicts.{both-accepted}
-use Rattle.desk.proofs.Calls.{asked-accepted, placed-accepted, refused, answers}
+use Rattle.plan.specs.declared.Verdict.the-variants.{Accepted as PlanAccepted}
+use Rattle.plan.specs.Plans.{sizeM, verdict, planOf}
+use Rattle.network.proofs.Picks.{built-used}
+use Rattle.plan.proofs.Accepted.{stands-importance}
+use Rattle.desk.specs.declared.CallVerdict.the-variants.{Accepted}
+use Rattle.desk.specs.Outcomes.{callReturned, asked, planned, placed, figureVerdict, importanceVerdict, importanceOutcome, withFigure}
+use Rattle.desk.proofs.Calls.{asked-means, planned-means, placed-means, also-means, refused, answers}
 use borrow.Author.Needs.{needs}
 use Rattle.desk.proofs.importance.Statement.{statement}
 use Rattle.desk.proofs.importance.Tie as tie
@@ -20,16 +21,16 @@ importance-verdict-requires c κs = search needs
 enum-told : tie.Need-enum-told
 enum-told c = search needs
 
-returned-requires : tie.Need-returned-requires
-returned-requires c κs = search needs
+call-returned-requires : tie.Need-call-returned-requires
+call-returned-requires c κs = search needs
 
 returns : tie.Need-returns
 unfolding importanceOutcome
 returns c =
     let v = c .before .before .before .importance-verdict in
     let a = c .before .before .before .before .before .before .args in
-    let r = refused (importanceVerdict (a .plan .now) (a .place) (a .limit) (length (a .answer .now))) _ (a .answer .now) (accepted (withFigure (importance (planOf (a .plan .now)) (a .place) (a .limit)) (a .answer .now))) (sym (v .ensures) ∙ c .before .enum-told .given .1) in
-    (c .returned .ensures ∙ ap returned (v .ensures) ∙ r .0, r .1)
+    let r = refused (importanceVerdict (a .plan .now) (a .place) (a .limit) (length (a .answer .now))) (a .answer .now) (withFigure (importance (planOf (a .plan .now)) (a .place) (a .limit)) (a .answer .now)) _ (sym (v .ensures) ∙ c .before .enum-told .given .1) in
+    (c .call-returned .ensures ∙ ap callReturned (v .ensures) ∙ r .0, r .1)
 
 enum-told-2 : tie.Need-enum-told-2
 enum-told-2 c = search needs
@@ -38,13 +39,13 @@ ok : (c : tie.After-enum-told2) → let a = c .before .before .before .before .b
 ok c = sym (c .before .before .importance-verdict .ensures) ∙ c .enum-told2 .given .1
 
 -- the limit and the buffer were accepted, and then the plan
-asks : (c : tie.After-enum-told2) → let a = c .before .before .before .before .before .args in (a .limit ≤ 1000000) × (16 ≤ length (a .answer .now)) × (verdict (a .plan .now) ≡ Accepted) × (a .place < sizeM (a .plan .now))
+asks : (c : tie.After-enum-told2) → let a = c .before .before .before .before .before .args in (a .limit ≤ 1000000) × (16 ≤ length (a .answer .now)) × (verdict (a .plan .now) ≡ PlanAccepted) × (a .place < sizeM (a .plan .now))
 asks c =
     let a = c .before .before .before .before .before .args in
-    let (w, z) = both-accepted (figureVerdict (a .plan .now) (a .limit) (length (a .answer .now))) (placed (a .plan .now) (a .place)) (ok c) in
-    let (x, y) = both-accepted (asked (a .limit) (length (a .answer .now))) (verdict (a .plan .now)) w in
-    let (l, r) = asked-accepted (a .limit) (length (a .answer .now)) x in
-    (l, r, y, placed-accepted (a .plan .now) (a .place) z)
+    let (w, z) = also-means (figureVerdict (a .plan .now) (a .limit) (length (a .answer .now))) (placed (a .plan .now) (a .place)) .0 (ok c) in
+    let (x, y) = also-means (asked (a .limit) (length (a .answer .now))) (planned (verdict (a .plan .now))) .0 w in
+    let (l, r) = asked-means (a .limit) (length (a .answer .now)) .0 x in
+    (l, r, planned-means (verdict (a .plan .now)) .0 y, placed-means (a .plan .now) (a .place) .0 z)
 
 network-of-requires : tie.Need-network-of-requires
 network-of-requires c κs = asks c .2
@@ -53,8 +54,9 @@ importance-requires : tie.Need-importance-requires
 importance-requires c κs =
     let k = asks (c .before) in
     let a = c .before .before .before .before .before .before .args in
-    let (equal, used) = stands-plain (a .plan .now) (c .network-of .result) (c .network-of .ensures .0) (c .network-of .ensures .1) (a .place) (k .3) in
-    (c .network-of .ensures .2, equal, used, omega (arith, k .0))
+    let at = built-used (c .network-of .result) (sizeM (a .plan .now)) (c .network-of .ensures .1) in
+    let some : 0 < sizeM (a .plan .now) = omega (arith, k .3) in
+    (c .network-of .ensures .2, search (at, some, k .3), omega (arith, k .0))
 
 put-answer-requires : tie.Need-put-answer-requires
 put-answer-requires c κs = asks (c .before .before .before) .1
@@ -68,11 +70,11 @@ returns-2 c =
     let a = c .before .before .before .before .before .before .before .before .before .before .before .args in
     let b = a .answer .now in
     let n = c .before .before .before .before .before .network-of in
-    let e = answers (importanceVerdict (a .plan .now) (a .place) (a .limit) (length (a .answer .now))) b (accepted (withFigure (importance (planOf (a .plan .now)) (a .place) (a .limit)) b)) (ok (c .before .before .before .before .before .before)) in (
-      ap (λ (o : Outcome). o .returned) e,
+    let e = answers (importanceVerdict (a .plan .now) (a .place) (a .limit) (length (a .answer .now))) b (withFigure (importance (planOf (a .plan .now)) (a .place) (a .limit)) b) (ok (c .before .before .before .before .before .before)) in (
+      e .0,
       c .before .before .put-answer .ensures
           ∙ ap (λ (f : Figure). withFigure f b) (c .before .before .before .before .importance .ensures ∙ stands-importance (a .plan .now) (n .result) (n .ensures .0) (n .ensures .1) (a .place) (asks (c .before .before .before .before .before .before) .3) (a .limit))
-          ∙ ap (λ (o : Outcome). o .buffer) e,
+          ∙ e .1,
     )
 
 pub importance-spec : {M : Type 1} → statement M
@@ -81,7 +83,7 @@ importance-spec =
     (tie.spec
     importance-verdict-requires
     enum-told
-    returned-requires
+    call-returned-requires
     returns
     enum-told-2
     network-of-requires

@@ -1,9 +1,8 @@
 use mathlib.Core.Path.{sym, ap, _∙_}
-use Rattle.plan.specs.declared.Verdict.{Verdict}
-use Rattle.plan.specs.Plans.{also, verdict}
+use Rattle.desk.specs.declared.CallVerdict.{CallVerdict}
 use native.Mathlib.Omega.{arith}
-use Rattle.plan.proofs.Verdicts.{accepted-means, both-accepted}
-use Rattle.desk.specs.Outcomes.{asked, placed}
+use Rattle.desk.specs.Outcomes.{also, placed}
+use Rattle.desk.proofs.Answers.{figure-means}
 use borrow.Author.Needs.{needs}
 use Rattle.desk.proofs.importance_verdict.Statement.{statement}
 use Rattle.desk.proofs.importance_verdict.Tie as tie
@@ -17,17 +16,18 @@ enum-told c = search needs
 place-verdict-requires : tie.Need-place-verdict-requires
 place-verdict-requires c κs =
     let e = sym (c .before .before .figure-verdict .ensures) ∙ c .enum-told .given .1 in
-    let w = accepted-means (c .before .before .before .before .args .plan .now) .0 (both-accepted (asked (c .before .before .before .before .args .limit) (c .before .before .before .before .args .room)) (verdict (c .before .before .before .before .args .plan .now)) e .1) in
+    let a = c .before .before .before .before .args in
+    let w = figure-means (a .plan .now) (a .limit) (a .room) .0 e .2 in
     omega (arith, w .whole)
 
 enum-known-c : tie.Need-enum-known-c
 enum-known-c c = search needs
 
 returns : tie.Need-returns
-returns c = c .place-verdict .ensures ∙ ap (λ (u : Verdict). also u (placed (c .before .before .before .before .before .args .plan .now) (c .before .before .before .before .before .args .place))) (sym (sym (c .before .before .before .figure-verdict .ensures) ∙ c .before .enum-told .given .1))
+returns c = c .place-verdict .ensures ∙ ap (λ (u : CallVerdict). also u (placed (c .before .before .before .before .before .args .plan .now) (c .before .before .before .before .before .args .place))) (sym (sym (c .before .before .before .figure-verdict .ensures) ∙ c .before .enum-told .given .1))
 
 returns-2 : tie.Need-returns-2
-returns-2 c = ap (λ (u : Verdict). also u (placed (c .before .before .before .before .before .args .plan .now) (c .before .before .before .before .before .args .place))) (sym (c .before .c .given .1) ∙ c .before .before .before .figure-verdict .ensures)
+returns-2 c = ap (λ (u : CallVerdict). also u (placed (c .before .before .before .before .before .args .plan .now) (c .before .before .before .before .before .args .place))) (sym (c .before .c .given .1) ∙ c .before .before .before .figure-verdict .ensures)
 
 pub importance-verdict-spec : {M : Type 1} → statement M
 importance-verdict-spec =

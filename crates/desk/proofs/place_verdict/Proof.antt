@@ -1,10 +1,10 @@
 use Prim.Native.Nat.{ℕ}
 use mathlib.Core.Path.{sym, ap, _∙_}
 use mathlib.Core.Bool.{cond}
-use lib.Dec.{ltb}
-use borrow.Author.Tests.{lt-ltb, le-ltb}
-use Rattle.plan.specs.declared.Cause.the-variants.{Place}
-use Rattle.plan.specs.declared.Verdict.the-variants.{Accepted, Refused}
+use lib.Dec.{leb}
+use borrow.Author.Tests.{lt-leb, le-leb}
+use Rattle.desk.specs.declared.CallCause.the-variants.{Place}
+use Rattle.desk.specs.declared.CallVerdict.the-variants.{Accepted, Refused}
 use Rattle.desk.specs.Outcomes.{placed}
 use borrow.Author.Needs.{needs}
 use Rattle.desk.proofs.place_verdict.Statement.{statement}
@@ -18,11 +18,11 @@ cast-m c = search needs
 
 returns : tie.Need-returns
 unfolding placed
-returns c = sym (ap (λ (m : ℕ). cond (ltb (c .before .before .before .before .args .place) m) Accepted (Refused Place)) (sym (c .before .before .sizes-of .ensures .1)) ∙ simp (lt-ltb _ _ (c .if1 .taken)))
+returns c = sym (ap (λ (m : ℕ). cond (leb m (c .before .before .before .before .args .place)) (Refused Place) Accepted) (sym (c .before .before .sizes-of .ensures .1)) ∙ simp (lt-leb _ _ (c .if1 .taken)))
 
 returns-2 : tie.Need-returns-2
 unfolding placed
-returns-2 c = sym (ap (λ (m : ℕ). cond (ltb (c .before .before .before .before .args .place) m) Accepted (Refused Place)) (sym (c .before .before .sizes-of .ensures .1)) ∙ simp (le-ltb _ _ (c .if1 .left)))
+returns-2 c = sym (ap (λ (m : ℕ). cond (leb m (c .before .before .before .before .args .place)) (Refused Place) Accepted) (sym (c .before .before .sizes-of .ensures .1)) ∙ simp (le-leb _ _ (c .if1 .left)))
 
 pub place-verdict-spec : {M : Type 1} → statement M
 place-verdict-spec = tie.close (tie.spec sizes-of-requires cast-m returns returns-2)

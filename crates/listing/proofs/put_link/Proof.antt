@@ -7,7 +7,9 @@ use Rattle.reliability.specs.declared.Link.{Link}
 use Rattle.reliability.specs.declared.Figure.{Figure}
 use Rattle.reliability.specs.Comparisons.{importance}
 use Rattle.plan.proofs.Verdicts.{accepted-means}
-use Rattle.plan.proofs.Accepted.{stands-plain, stands-importance}
+use Rattle.reader.specs.Layout.{sizeM}
+use Rattle.plan.proofs.Accepted.{stands-importance}
+use Rattle.network.proofs.Picks.{built-used}
 use Rattle.listing.specs.Listings.{limit, Puts, linkLine, lineOf}
 use borrow.Author.Needs.{needs}
 use Rattle.listing.proofs.put_link.Statement.{statement}
@@ -30,8 +32,7 @@ importance-requires c κs =
     let a = c .before .before .before .before .args in
     let k = c .before .before .before .before .pre in
     let n = c .network-of in
-    let (equal, used) = stands-plain (a .plan .now) (n .result) (n .ensures .0) (n .ensures .1) (a .i) (k .1) in
-    (n .ensures .2, equal, used, omega arith)
+    (n .ensures .2, built-used (n .result) (sizeM (a .plan .now)) (n .ensures .1) (a .i) (k .1), omega arith)
 
 slice-aggregate-put-line : tie.Need-slice-aggregate-put-line
 slice-aggregate-put-line c = search needs

@@ -15,7 +15,7 @@ use Rattle.listing.proofs.put_links.Tie as tie
 use Rattle.listing.proofs.put_links.Reads as reads
 use Rattle.listing.proofs.put_links.Lts as lts
 use Rattle.listing.proofs.put_link.Reads as put-link-reads
-use Rattle.plan.proofs.sizes_of.Reads as sizes-of-reads
+use Rattle.reader.proofs.sizes_of.Reads as sizes-of-reads
 
 abbrev Inv-loop : tie.InvT-loop
 Inv-loop text₀ at plan m next₀ i₀ text next i = (m ≡ sizeM plan) × (i ≤ m) × Remaining text next (linkLines plan i (m - i)) (sets text₀ at (linkLines plan 0 m)) (at + length (linkLines plan 0 m)) (length text₀)

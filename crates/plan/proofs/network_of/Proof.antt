@@ -6,7 +6,8 @@ use native.Mathlib.Omega.{arith}
 use native.Mathlib.Decide.{ℕ-discrete}
 use Rattle.reliability.specs.Networks.{Proper}
 use borrow.Author.Needs.{needs}
-use Rattle.network.specs.Places.{from, nodesOf, linksOf, Built, Invariant}
+use Rattle.search.specs.Searches.{from}
+use Rattle.network.specs.Places.{nodesOf, linksOf, Built, Invariant}
 use Rattle.plan.specs.Plans.{sizeN, sizeM, linkIn, linksIn, WellFormed}
 use Rattle.plan.proofs.Verdicts.{accepted-means}
 use Rattle.plan.proofs.Links.{links-more}

@@ -7,7 +7,7 @@ use Rattle.planlist.proofs.main.Reads as reads
 use Rattle.planlist.proofs.main.Lts as lts
 use Rattle.io.proofs.read_full.Reads as read-full-reads
 use Rattle.io.proofs.write_all.Reads as write-all-reads
-use Rattle.listing.proofs.listing.Reads as listing-reads
+use Rattle.listing.proofs.listing_of_input.Reads as listing-of-input-reads
 
 slice-aggregate-read-full : tie.Need-slice-aggregate-read-full
 slice-aggregate-read-full c = search needs
@@ -15,20 +15,14 @@ slice-aggregate-read-full c = search needs
 read-full-requires : tie.Need-read-full-requires
 read-full-requires c κs = search needs
 
-array-share-prefix-plan : tie.Need-array-share-prefix-plan
-array-share-prefix-plan c = search needs
-
-slice-aggregate-listing : tie.Need-slice-aggregate-listing
-slice-aggregate-listing c = search needs
-
-listing-requires : tie.Need-listing-requires
-listing-requires c κs = search needs
+listing-of-input-requires : tie.Need-listing-of-input-requires
+listing-of-input-requires c κs = search needs
 
 array-share-prefix-text : tie.Need-array-share-prefix-text
 array-share-prefix-text c = search needs
 
 slice-aggregate-write-all : tie.Need-slice-aggregate-write-all
-slice-aggregate-write-all c = let t = c .before .listing in sym (length-take-le (t .result) (t .last .1 .0) (t .ensures .1 .0))
+slice-aggregate-write-all c = let t = c .before .listing-of-input in sym (length-take-le (t .result) (t .last .1 .1 .0) (t .ensures .0))
 
 write-all-requires : tie.Need-write-all-requires
 write-all-requires c κs = search needs
@@ -42,9 +36,7 @@ main-spec =
     (tie.spec
     slice-aggregate-read-full
     read-full-requires
-    array-share-prefix-plan
-    slice-aggregate-listing
-    listing-requires
+    listing-of-input-requires
     array-share-prefix-text
     slice-aggregate-write-all
     write-all-requires

@@ -1,0 +1,64 @@
+use mathlib.Core.Path.{ap}
+use native.Mathlib.Omega.{arith}
+use borrow.Author.Needs.{needs}
+use Rattle.plan.proofs.Verdicts.{number-range}
+use Rattle.desk.specs.Outcomes.{callNumber}
+use Rattle.desk.proofs.call_number.Statement.{statement}
+use Rattle.desk.proofs.call_number.Tie as tie
+
+enum-told : tie.Need-enum-told
+enum-told c = search needs
+
+enum-told-2 : tie.Need-enum-told-2
+enum-told-2 c = search needs
+
+enum-told-3 : tie.Need-enum-told-3
+enum-told-3 c = search needs
+
+enum-known-c : tie.Need-enum-known-c
+enum-known-c c = search needs
+
+number-of-requires : tie.Need-number-of-requires
+number-of-requires c κs = search needs
+
+enum-known-c-2 : tie.Need-enum-known-c-2
+enum-known-c-2 c = search needs
+
+number-of-requires-2 : tie.Need-number-of-requires-2
+number-of-requires-2 c κs = search needs
+
+add-result : tie.Need-add-result
+add-result c = let e = c .number-of2 .ensures in omega (arith, number-range (c .before .before .c2 .given .0 .0))
+
+returns : tie.Need-returns
+returns c = search needs
+
+returns-2 : tie.Need-returns-2
+returns-2 c = search needs
+
+returns-3 : tie.Need-returns-3
+returns-3 c = search needs
+
+returns-4 : tie.Need-returns-4
+returns-4 c = search needs
+
+returns-5 : tie.Need-returns-5
+returns-5 c = cc (ap callNumber (c .before .before .c2 .given .1))
+
+pub call-number-spec : {M : Type 1} → statement M
+call-number-spec =
+    tie.close
+    (tie.spec
+    enum-told
+    enum-told-2
+    enum-told-3
+    enum-known-c
+    number-of-requires
+    enum-known-c-2
+    number-of-requires-2
+    add-result
+    returns
+    returns-2
+    returns-3
+    returns-4
+    returns-5)

@@ -1,0 +1,50 @@
+use mathlib.Core.Path.{ap}
+use borrow.Author.Needs.{needs}
+use Rattle.desk.specs.Outcomes.{callReturned}
+use Rattle.desk.proofs.call_returned.Statement.{statement}
+use Rattle.desk.proofs.call_returned.Tie as tie
+
+enum-told : tie.Need-enum-told
+enum-told c = search needs
+
+enum-known-v : tie.Need-enum-known-v
+enum-known-v c = search needs
+
+call-number-requires : tie.Need-call-number-requires
+call-number-requires c κs = search needs
+
+cast-result : tie.Need-cast-result
+cast-result c = search needs
+
+call-link-requires : tie.Need-call-link-requires
+call-link-requires c κs = search needs
+
+cast-result-2 : tie.Need-cast-result-2
+cast-result-2 c = search needs
+
+mul-result : tie.Need-mul-result
+mul-result c = search needs
+
+add-result : tie.Need-add-result
+add-result c = search needs
+
+returns : tie.Need-returns
+returns c = search needs
+
+returns-2 : tie.Need-returns-2
+returns-2 c = cc (ap callReturned (c .before .before .before .v .given .1))
+
+pub call-returned-spec : {M : Type 1} → statement M
+call-returned-spec =
+    tie.close
+    (tie.spec
+    enum-told
+    enum-known-v
+    call-number-requires
+    cast-result
+    call-link-requires
+    cast-result-2
+    mul-result
+    add-result
+    returns
+    returns-2)
