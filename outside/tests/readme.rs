@@ -270,7 +270,9 @@ fn wrong_names(document: &str, names: &Names) -> Vec<String> {
 #[test]
 fn files_and_names_exist() {
     let names = Names::read();
-    let mut documents = vec!["README.md".to_owned()];
+    let mut documents = ["README.md", "outside/README.md"]
+        .map(str::to_owned)
+        .to_vec();
     for file in files(&path("docs")) {
         let name = file.strip_prefix(path("")).unwrap().to_str().unwrap();
         documents.push(name.to_owned());
