@@ -129,8 +129,9 @@ impl Names {
     pub fn wrong(&self, name: &str, place: &Place, edits: bool) -> Option<String> {
         let file = place.file.as_deref();
         let missing = place.crates.iter().find(|of| {
-            let parts = name.split("::").all(|part| self.declared(part, of, file));
-            !parts && !(edits && file.is_none() && self.is_edit(name, of))
+            let declared = name.split("::").all(|part| self.declared(part, of, file));
+            let edit = edits && file.is_none() && self.is_edit(name, of);
+            !(declared || edit)
         })?;
         let place = folder_name(missing) + file.unwrap_or("");
         Some(format!("`{name}` is not declared in {place}"))
@@ -154,14 +155,9 @@ fn folder(name: &str) -> PathBuf {
 pub fn is_a_file(name: &str, crates: &[String]) -> bool {
     let mut folders: Vec<PathBuf> = crates.iter().map(|name| folder(name)).collect();
     folders.extend([path(""), path(OUTSIDE)]);
-    let below = |of: &String| names::files(&folder(of));
-    let bare = !name.contains('/');
-    folders.iter().any(|folder| folder.join(name).exists())
-        || bare
-            && crates
-                .iter()
-                .flat_map(below)
-                .any(|file| has_name(&file, name))
+    let found = folders.iter().any(|folder| folder.join(name).exists());
+    let mut files = crates.iter().flat_map(|of| names::files(&folder(of)));
+    found || !name.contains('/') && files.any(|file| has_name(&file, name))
 }
 
 fn has_name(file: &Path, name: &str) -> bool {

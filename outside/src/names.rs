@@ -62,15 +62,7 @@ fn first_name(text: &str) -> &str {
 }
 
 /// What may stand before the name that a line of a proof file declares.
-const BEFORE: [&str; 7] = [
-    "pub",
-    "abbrev",
-    "unfoldable",
-    "opaque",
-    "record",
-    "data",
-    "instance",
-];
+const BEFORE: [&str; 5] = ["pub", "abbrev", "unfoldable", "record", "data"];
 
 /// The name that a line of a proof file declares: `pub name : ..`.
 fn declared_by_proof(line: &str) -> Option<&str> {
