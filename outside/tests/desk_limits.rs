@@ -49,6 +49,9 @@ fn unending() -> Vec<Plan> {
         random.shuffle(&mut plan.links);
         plans.push(plan);
     }
+    let loops = plans.iter().flat_map(|plan| &plan.links);
+    let loops = loops.filter(|link| link.ends[0] == link.ends[1]).count();
+    assert!(loops > 5, "too few loops: {loops}");
     plans
 }
 
