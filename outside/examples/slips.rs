@@ -3,7 +3,8 @@
 //!
 //!     cargo run --release --offline --locked --manifest-path outside/Cargo.toml --example slips [WORD ..]
 //!
-//! tries the slips whose names have all the words. It fails if a slip is not caught, or if a test fails without one.
+//! tries the slips whose names have all the words, or all slips. It fails if a slip is not caught, or if a test fails without one,
+//! which is tried where no words are given.
 
 use outside::programs::ran;
 use outside::repository::{library, path};
@@ -27,6 +28,9 @@ const CALLS: [&str; 4] = ["check", "figure", "importance", "difference"];
 const CHECK: usize = 0;
 const IMPORTANCE: usize = 2;
 const DIFFERENCE: usize = 3;
+
+/// More steps than most tests take.
+const MANY: i64 = 50_000;
 
 /// What is wrong with an answer: the number of it, and by how much. The first six are tried everywhere, the others where that
 /// takes few steps.
@@ -68,7 +72,7 @@ fn of_answers() -> Vec<Slip> {
     let mut slips = Vec::new();
     for (place, [least, most, finished, from, to]) in WHERE {
         for (call, of) in CALLS.iter().enumerate() {
-            let count = if from > 50_000 { 6 } else { WRONG.len() };
+            let count = if from > MANY { 6 } else { WRONG.len() };
             for &(wrong, what, by) in &WRONG[..count] {
                 if call != CHECK || what == 6 && finished == 1 {
                     let numbers = [0, call as i64, what, by, least, most, finished, from, to];
@@ -243,10 +247,17 @@ fn shown((program, test): &Trial) -> String {
     format!("{}: {}", name(program), test.as_deref().unwrap_or("ended"))
 }
 
-/// Which test catches the slip. The tests that caught one before are tried first, the last of them before all others.
+/// Which test catches the slip. The tests that caught one before are tried first, the last of them before all others; of slips
+/// at many steps it is the last alone, and then the programs that take long.
 fn tried(slip: &Slip, programs: &[PathBuf], before: &mut Vec<Trial>) -> Option<Trial> {
-    let whole = programs.iter().map(|program| (program.clone(), None));
-    let trials: Vec<Trial> = before.iter().rev().cloned().chain(whole).collect();
+    let late = slip.numbers.get(7).is_some_and(|from| *from > MANY);
+    let mut trials: Vec<Trial> = before.iter().rev().cloned().collect();
+    let mut whole: Vec<Trial> = programs.iter().map(|p| (p.clone(), None)).collect();
+    if late {
+        trials.truncate(1);
+        whole.reverse();
+    }
+    trials.extend(whole);
     let found = trials.iter().find_map(|trial| caught(trial, Some(slip)))?;
     before.retain(|trial| *trial != found);
     before.push(found.clone());
@@ -258,7 +269,7 @@ fn main() -> ExitCode {
     let folder = path("target").join("slips");
     write_libraries(&folder);
     let programs = built(&folder.canonicalize().unwrap());
-    for program in &programs {
+    for program in programs.iter().filter(|_| words.is_empty()) {
         if let Some(trial) = caught(&(program.clone(), None), None) {
             println!("fails without a slip: {}", shown(&trial));
             return ExitCode::FAILURE;
