@@ -24,8 +24,11 @@
    Links are tested in order, 5 before 6 at each.
 
    A call asks that each pointer stands for as many bytes as the length behind it says (any pointer will do where that is
-   0), and that the answer buffer shares no byte with a plan. It allocates nothing, keeps nothing, and may be made in any
-   number of threads; it takes less than 512 KiB of stack. */
+   0), and that the answer buffer shares no byte with a plan. It allocates nothing and keeps nothing, so it is safe from
+   several threads at once; each needs a stack of 512 KiB for it.
+
+   How long a call takes goes by its steps: at the limit of 1,000,000 some 2 seconds on one core of x86-64 for figure, twice
+   that for importance and difference, which work two networks. A call cannot be stopped; a smaller limit ends it sooner. */
 
 #ifndef PLANDESK_H
 #define PLANDESK_H

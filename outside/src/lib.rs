@@ -3,9 +3,11 @@
 
 pub mod arithmetic;
 pub mod calls;
+pub mod citations;
 pub mod desk;
 pub mod library;
 pub mod listing;
+pub mod names;
 pub mod plans;
 pub mod programs;
 pub mod random;

@@ -8,6 +8,11 @@ pub fn path(name: &str) -> PathBuf {
     Path::new(env!("CARGO_MANIFEST_DIR")).join("..").join(name)
 }
 
+/// A static library that the tests link.
+pub fn library(name: &str) -> PathBuf {
+    Path::new(env!("LIBRARIES")).join(format!("lib{name}.a"))
+}
+
 /// The bytes of a file of the repository.
 pub fn bytes(name: &str) -> Vec<u8> {
     fs::read(path(name)).unwrap_or_else(|error| panic!("{name}: {error}"))

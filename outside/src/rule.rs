@@ -266,7 +266,8 @@ impl Display for Answer {
     }
 }
 
-fn minus(a: Figure, b: Figure) -> Answer {
+/// The difference of two figures.
+pub fn minus(a: Figure, b: Figure) -> Answer {
     Answer {
         low: i64::from(a.low) - i64::from(b.high),
         high: i64::from(a.high) - i64::from(b.low),

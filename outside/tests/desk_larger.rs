@@ -7,7 +7,7 @@ use outside::rule::{figure, Answer, Network};
 
 /// The answer of an accepted call.
 fn answer(call: Call) -> Answer {
-    held(&call, 16).unwrap().unwrap()
+    held(&call, 24).unwrap().unwrap()
 }
 
 /// Of all sizes, under each limit up to 60.

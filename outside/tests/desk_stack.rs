@@ -1,9 +1,11 @@
-//! Whole calls at the largest sizes, on a stack of 512 KiB.
+//! Whole calls at the largest sizes, on a stack of 512 KiB, and in eight threads at once.
 
 use outside::arithmetic::S;
-use outside::calls::{left, Call, MOST_STEPS};
-use outside::desk::{made, pattern};
+use outside::calls::{left, Call, Outcome, MOST_STEPS};
+use outside::desk::{hold, made, pattern};
 use outside::plans::Plan;
+use outside::random::Random;
+use outside::repository::plan;
 use outside::rule::{needed, Network};
 use std::thread;
 
@@ -63,4 +65,42 @@ fn sixty_four_loops_and_parallels() {
             limit,
         });
     }
+}
+
+const THREADS: usize = 8;
+
+/// Each thread makes all the calls, each from another one on, so that different plans are worked at the same time.
+#[test]
+fn eight_threads_at_once() {
+    let mut random = Random::new(71);
+    let mut files = vec![plan("mesh"), plan("two-crossings"), deepest().bytes()];
+    files.extend([9, 20, 32].map(|nodes| Plan::random_of(&mut random, nodes, 64).bytes()));
+    let (limit, place) = (3_000, 20);
+    let others = files.iter().cycle().skip(1);
+    let calls: Vec<Call> = files
+        .iter()
+        .zip(others)
+        .flat_map(|(plan, b)| {
+            [
+                Call::Check { plan },
+                Call::Figure { plan, limit },
+                Call::Importance { plan, place, limit },
+                Call::Difference { a: plan, b, limit },
+            ]
+        })
+        .collect();
+    let outcomes: Vec<Outcome> = calls.iter().map(|call| call.outcome(24)).collect();
+    thread::scope(|scope| {
+        for first in 0..THREADS {
+            let (calls, outcomes) = (&calls, &outcomes);
+            let small = thread::Builder::new().stack_size(STACK);
+            let run = move || {
+                for i in 0..4 * calls.len() {
+                    let i = (i + 3 * first) % calls.len();
+                    hold(&calls[i], 24, &outcomes[i]);
+                }
+            };
+            small.spawn_scoped(scope, run).unwrap();
+        }
+    });
 }

@@ -9,7 +9,7 @@ use outside::states::{Exact, MOST};
 
 /// The answer of an accepted call.
 fn answer(call: Call) -> Answer {
-    held(&call, 16).unwrap().unwrap()
+    held(&call, 24).unwrap().unwrap()
 }
 
 fn splits(plan: &Plan) -> u64 {

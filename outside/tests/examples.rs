@@ -1,9 +1,10 @@
-//! The examples in C: they compile without a warning, and the comparison of two plans prints what the rule gives.
+//! The header and the examples in C: they compile without a warning, the header as C++ too, and the comparison of two plans
+//! prints what the rule gives.
 
 use outside::arithmetic::S;
 use outside::calls::Call;
 use outside::plans::Plan;
-use outside::programs::compiled;
+use outside::programs::{compiled, compiled_as_cpp, ran};
 use outside::repository::{path, plan};
 use std::fs;
 use std::path::{Path, PathBuf};
@@ -48,6 +49,15 @@ fn lines(a: &[u8], b: &[u8], limit: u64) -> String {
         line("A - B", Call::Difference { a, b, limit }),
     ]
     .concat()
+}
+
+/// Each call is declared as it is defined, for both languages.
+#[test]
+fn the_header() {
+    let source = "outside/c/header.c";
+    ran(&mut Command::new(compiled(source, &written("header-c"))));
+    let program = written("header-cpp");
+    ran(&mut Command::new(compiled_as_cpp(source, &program)));
 }
 
 #[test]

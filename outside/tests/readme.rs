@@ -1,22 +1,19 @@
-//! The documents: each command in them is run, and what it writes is what stands below it; each file and each name in them
-//! exists.
+//! The documents: each command in them is run, and what it writes is what stands below it; each file in them exists, and each
+//! name is declared where they say so.
 
+use outside::citations::{is_a_file, pieces, Names, Piece, Place};
+use outside::names::{edits, files, in_a_name, section_of_edits};
 use outside::repository::{bytes, path};
-use std::collections::HashSet;
-use std::fs;
-use std::path::{Path, PathBuf};
 use std::process::Command;
 
 /// Documents with commands.
 const DOCUMENTS: [&str; 2] = ["README.md", "docs/READING.md"];
 
-/// Documents that name files, definitions, theorems, functions and edits.
-const NAMING: [&str; 4] = [
-    "README.md",
-    "docs/READING.md",
-    "docs/DEMANDS.md",
-    "docs/DECISIONS.md",
-];
+/// The table of demands, whose form is strict.
+const DEMANDS: &str = "docs/DEMANDS.md";
+
+/// Words in backticks that are neither files nor declared: of the kit.
+const WORDS: [&str; 2] = ["rt", "io"];
 
 struct Example {
     line: usize,
@@ -69,51 +66,223 @@ fn run(name: &str) {
 
 #[test]
 fn commands_write_what_is_shown() {
-    DOCUMENTS.map(run);
+    DOCUMENTS.into_iter().for_each(run);
 }
 
-/// Whether a character may stand in a name of the code or of the proofs.
-fn in_a_name(c: char) -> bool {
-    c.is_alphanumeric() || c == '_' || c == '-'
+fn text_of(document: &str) -> String {
+    String::from_utf8(bytes(document)).unwrap()
 }
 
-/// Adds the names in a file, or in all files of a folder, and their own.
-fn add_names(place: &Path, names: &mut HashSet<String>) {
-    names.insert(place.file_stem().unwrap().to_string_lossy().into_owned());
-    if place.is_dir() {
-        for entry in fs::read_dir(place).unwrap() {
-            add_names(&entry.unwrap().path(), names);
+/// Fails with all that is wrong.
+fn none(wrong: Vec<String>) {
+    assert!(wrong.is_empty(), "\n{}", wrong.join("\n"));
+}
+
+/// A path in backticks and not a name.
+fn is_path(word: &str) -> bool {
+    word.contains('/') || word.contains('.')
+}
+
+/// What is wrong with words in backticks that need no place: files have to exist, a phrase may be anything.
+fn wrong_apart(word: &str, names: &Names) -> Option<String> {
+    let free = word.contains("NAME") || word.contains(' ') || WORDS.contains(&word);
+    if free || names.crates.iter().any(|name| name == word) {
+        return None;
+    }
+    if is_path(word) {
+        let missing = !is_a_file(word, &names.crates);
+        return missing.then(|| format!("there is no file `{word}`"));
+    }
+    Some(format!("`{word}` has no crate behind it"))
+}
+
+/// Each name in the second column has its crate behind it, and its file where it is not of the source.
+fn wrong_saying(cell: &str, names: &Names) -> Vec<String> {
+    let mut wrong = Vec::new();
+    let mut open: Vec<String> = Vec::new();
+    for piece in pieces(cell, &names.crates) {
+        match piece {
+            Piece::Quoted(_, word) => open.push(word),
+            Piece::At(place) => {
+                let held = open
+                    .drain(..)
+                    .filter(|word| !is_path(word) && !word.contains(' '));
+                wrong.extend(held.filter_map(|word| names.wrong(&word, &place, false)));
+            }
+            Piece::Text(_) => (),
         }
-    } else {
-        let text = String::from_utf8_lossy(&fs::read(place).unwrap()).into_owned();
-        names.extend(text.split(|c| !in_a_name(c)).map(str::to_owned));
+    }
+    wrong.extend(open.iter().filter_map(|word| wrong_apart(word, names)));
+    wrong
+}
+
+/// The third column is names of edits, each list with its crate behind it.
+fn wrong_edits(cell: &str, names: &Names) -> Vec<String> {
+    let mut wrong = Vec::new();
+    let mut open: Vec<String> = Vec::new();
+    for piece in pieces(cell, &names.crates) {
+        match piece {
+            Piece::Quoted(_, word) => open.push(word),
+            Piece::At(Place { crates, file: None }) => {
+                for (name, of) in open.iter().flat_map(|e| crates.iter().map(move |c| (e, c))) {
+                    if !names.is_edit(name, of) {
+                        wrong.push(format!("there is no crates/{of}/must-fail/{name}.edit"));
+                    }
+                }
+                open.clear();
+            }
+            Piece::At(place) => wrong.push(format!("an edit has no file: {place:?}")),
+            Piece::Text(text) if ["", " ", ", "].contains(&text.as_str()) => (),
+            Piece::Text(text) => wrong.push(format!("neither an edit nor a crate: '{text}'")),
+        }
+    }
+    wrong.extend(
+        open.iter()
+            .map(|name| format!("edit `{name}` has no crate")),
+    );
+    wrong
+}
+
+/// The cells of a row of a table.
+fn cells(line: &str) -> Vec<String> {
+    let line = line.replace("\\|", "\u{a6}");
+    let inner = line.trim_matches('|').split('|');
+    inner.map(|cell| cell.trim().to_owned()).collect()
+}
+
+#[test]
+fn demands_are_cited_where_they_are_declared() {
+    let names = Names::read();
+    let mut wrong = Vec::new();
+    let mut rows = 0;
+    for (i, line) in text_of(DEMANDS).lines().enumerate() {
+        let cells = cells(line);
+        let [sentence, said, edits] = &cells[..] else {
+            continue;
+        };
+        rows += 1;
+        if sentence == "Sentence" || sentence.starts_with("---") {
+            continue;
+        }
+        let mut found = wrong_saying(said, &names);
+        found.extend(wrong_edits(edits, &names));
+        let row: String = sentence.chars().take(50).collect();
+        let at = |what| format!("{DEMANDS}:{}, \"{row}..\": {what}", i + 1);
+        wrong.extend(found.into_iter().map(at));
+    }
+    assert!(rows > 100, "too few rows: {rows}");
+    none(wrong);
+}
+
+#[test]
+fn all_edits_are_listed() {
+    let names = Names::read();
+    let text = text_of(DEMANDS);
+    let mut wrong = Vec::new();
+    let (_, section) = text.split_once("## All edits by crate\n").unwrap();
+    let mut listed: Vec<(String, String)> = Vec::new();
+    for line in section.lines().filter(|line| line.starts_with("| `")) {
+        let cells = cells(line);
+        let name = cells[0].trim_matches('`').to_owned();
+        for edit in cells[1].split(", ").map(|edit| edit.trim_matches('`')) {
+            if !names.is_edit(edit, &name) {
+                wrong.push(format!(
+                    "{DEMANDS}: there is no crates/{name}/must-fail/{edit}.edit"
+                ));
+            }
+            listed.push((name.clone(), edit.to_owned()));
+        }
+    }
+    for name in &names.crates {
+        for edit in edits(name) {
+            if !listed.contains(&(name.clone(), edit.clone())) {
+                wrong.push(format!(
+                    "{DEMANDS}: crates/{name}/must-fail/{edit}.edit is not listed"
+                ));
+            }
+        }
+    }
+    none(wrong);
+    assert!(section.ends_with(&section_of_edits()), "not in order");
+}
+
+/// The text without its blocks of code, character for character, and each line's end a space.
+fn prose(text: &str) -> String {
+    let mut block = true;
+    let mut prose = String::new();
+    for line in text.lines() {
+        block = line.is_empty() || block && line.starts_with("    ");
+        let code = block && !line.is_empty();
+        prose.push_str(&if code {
+            " ".repeat(line.len())
+        } else {
+            line.into()
+        });
+        prose.push(' ');
+    }
+    prose
+}
+
+/// The place that stands behind a list of names, in parentheses or as the file that they are in.
+fn place_behind(pieces: &[Piece]) -> Option<Place> {
+    match pieces {
+        [Piece::Text(space), Piece::At(place), ..] if space == " " => Some(place.clone()),
+        [Piece::Text(within), Piece::Quoted(_, file), ..] if within == " in " => {
+            let (name, file) = file.strip_prefix("crates/")?.split_once('/')?;
+            Some(Place {
+                crates: vec![name.into()],
+                file: Some(file.into()),
+            })
+        }
+        [Piece::Text(comma), Piece::Quoted(..), rest @ ..]
+            if [", ", " and ", ", and "].contains(&comma.as_str()) =>
+        {
+            place_behind(rest)
+        }
+        _ => None,
     }
 }
 
-/// Whether there is such a file, from the root, from `outside` or from a crate's folder.
-fn is_a_file(name: &str) -> bool {
-    let crates = fs::read_dir(path("crates")).unwrap();
-    let mut folders: Vec<PathBuf> = crates.map(|entry| entry.unwrap().path()).collect();
-    folders.extend([path(""), path("outside")]);
-    folders.iter().any(|folder| folder.join(name).exists())
+/// What is wrong with the names and files of a document: a place behind a name has to have it, any other name has to be
+/// declared somewhere.
+fn wrong_names(document: &str, names: &Names) -> Vec<String> {
+    let text = text_of(document);
+    let prose = prose(&text);
+    let all = pieces(&prose, &names.crates);
+    let mut wrong = Vec::new();
+    for (i, piece) in all.iter().enumerate() {
+        let Piece::Quoted(at, word) = piece else {
+            continue;
+        };
+        let found = match place_behind(&all[i + 1..]) {
+            _ if !word.chars().all(|c| in_a_name(c) || "/.:".contains(c)) => None,
+            _ if is_path(word) => wrong_apart(word, names),
+            Some(place) => names.wrong(word, &place, true),
+            None if names.known(word) => None,
+            None => wrong_apart(word, names).map(|_| format!("`{word}` is declared nowhere")),
+        };
+        let line = 1 + text[..*at].matches('\n').count();
+        wrong.extend(found.map(|what| format!("{document}:{line}: {what}")));
+    }
+    wrong
 }
 
 #[test]
 fn files_and_names_exist() {
-    let mut names = HashSet::new();
-    for place in ["crates", "include", "outside/src", "outside/tests"] {
-        add_names(&path(place), &mut names);
+    let names = Names::read();
+    let mut documents = ["README.md", "outside/README.md"]
+        .map(str::to_owned)
+        .to_vec();
+    for file in files(&path("docs")) {
+        let name = file.strip_prefix(path("")).unwrap().to_str().unwrap();
+        documents.push(name.to_owned());
     }
-    for document in NAMING {
-        let text = String::from_utf8(bytes(document)).unwrap();
-        for word in text.split('`').skip(1).step_by(2) {
-            let known = match word {
-                _ if word.contains("NAME") || word.contains(' ') => true,
-                _ if word.contains('/') => is_a_file(word),
-                _ if word.chars().all(in_a_name) => names.contains(word),
-                _ => true,
-            };
-            assert!(known, "{document}: {word}");
-        }
-    }
+    documents.retain(|name| name.ends_with(".md") && name != DEMANDS);
+    assert!(documents.len() >= 3, "too few: {documents:?}");
+    none(
+        documents
+            .iter()
+            .flat_map(|name| wrong_names(name, &names))
+            .collect(),
+    );
 }

@@ -195,11 +195,18 @@ fn of_difference() {
     });
 }
 
-/// A limit or a buffer that no check has, and a place, play no part in it.
+/// Plans that the other calls refuse by rows 7, 8 and 9 are accepted by a check.
 #[test]
 fn check_has_rows_1_to_6_alone() {
-    let plan = accepted().a.bytes();
-    for room in [0, 15, 16] {
-        assert_eq!(returned(Call::Check { plan: &plan }, room), Ok(()));
+    for plan in [accepted().a.plan, Plan::new(1, &[]), Plan::new(32, &[])] {
+        let place = plan.links.len() as u64;
+        let plan = &plan.bytes();
+        let limit = 1_000_001;
+        assert_eq!(returned(Call::Figure { plan, limit }, 16), Err(7));
+        let limit = 1_000_000;
+        assert_eq!(returned(Call::Figure { plan, limit }, 15), Err(9));
+        let at = Call::Importance { plan, place, limit };
+        assert_eq!(returned(at, 16), Err(8));
+        assert_eq!(returned(Call::Check { plan }, 16), Ok(()));
     }
 }

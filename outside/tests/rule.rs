@@ -2,9 +2,10 @@
 
 use outside::arithmetic::{split, Side, S};
 use outside::calls::{answer_bytes, held, read, Call};
-use outside::plans::{Link, Plan, LENGTH};
+use outside::desk::hold;
+use outside::plans::{Plan, LENGTH};
 use outside::random::Random;
-use outside::rule::{difference, figure, needed, Answer, Figure, Network};
+use outside::rule::{figure, needed, Answer, Network};
 use outside::states::Exact;
 use std::cmp::Ordering;
 
@@ -14,6 +15,12 @@ const FOUR: [[u8; 2]; 6] = [[0, 1], [0, 2], [0, 3], [1, 2], [1, 3], [2, 3]];
 
 fn listed() -> Plan {
     Plan::new(2, &[(0, 1, 900_000_000), (0, 1, 800_000_000)])
+}
+
+/// The figure of a plan, to which the library is held.
+fn worked(plan: &Plan, limit: u64) -> Answer {
+    let plan = &plan.bytes();
+    held(&Call::Figure { plan, limit }, 24).unwrap().unwrap()
 }
 
 fn sample() -> Plan {
@@ -60,9 +67,7 @@ fn the_plans_that_are_written_down() {
             steps,
             finished,
         };
-        let bytes = &plan.bytes();
-        let call = Call::Figure { plan: bytes, limit };
-        assert_eq!(held(&call, 16), Ok(Some(expected)), "{name}");
+        assert_eq!(worked(&plan, limit), expected, "{name}");
         if finished {
             assert_eq!(needed(Network::from(&plan)), steps, "{name}");
         }
@@ -72,7 +77,6 @@ fn the_plans_that_are_written_down() {
 /// Where a link is sound its ends are one node, and that branch takes what steps it needs of those that are left.
 #[test]
 fn sound_comes_first() {
-    let five = Network::from(&Plan::complete(5, HALF));
     let merged = [
         [0, 1],
         [0, 1],
@@ -86,33 +90,40 @@ fn sound_comes_first() {
     ];
     let sound = figure(Network::from(&Plan::alike(4, HALF, &merged)), 1);
     assert!(sound.finished && sound.steps == 1);
-    let expected = Figure {
-        low: split(Side::Low, HALF, sound.low, 0),
-        high: split(Side::High, HALF, sound.high, S),
+    let expected = Answer {
+        low: split(Side::Low, HALF, sound.low, 0).into(),
+        high: split(Side::High, HALF, sound.high, S).into(),
         steps: 2,
         finished: false,
     };
-    assert_eq!(figure(five, 2), expected);
+    assert_eq!(worked(&Plan::complete(5, HALF), 2), expected);
 }
 
 #[test]
 fn zero_links_count() {
-    let four = Network::from(&Plan::alike(4, 0, &FOUR));
-    let asked = |limit| {
-        let figure = figure(four.clone(), limit);
-        (figure.low, figure.high, figure.steps, figure.finished)
-    };
-    assert_eq!(asked(0), (0, S, 0, false));
-    assert_eq!(asked(1), (0, 0, 1, true));
+    let four = Plan::alike(4, 0, &FOUR);
+    for (limit, high, finished) in [(0, S.into(), false), (1, 0, true), (2, 0, true)] {
+        let expected = Answer {
+            low: 0,
+            high,
+            steps: limit.min(1),
+            finished,
+        };
+        assert_eq!(worked(&four, limit), expected);
+    }
 }
 
 /// A loop at each node of P5 changes nothing.
 #[test]
 fn loops_do_not_count() {
     let ends = [[0, 0], [0, 1], [1, 1], [1, 2], [2, 2]];
-    let figure = figure(Network::from(&Plan::alike(3, HALF, &ends)), 0);
-    assert_eq!((figure.low, figure.high), (250_000_000, 250_000_000));
-    assert!(figure.finished);
+    let expected = Answer {
+        low: 250_000_000,
+        high: 250_000_000,
+        steps: 0,
+        finished: true,
+    };
+    assert_eq!(worked(&Plan::alike(3, HALF, &ends), 0), expected);
 }
 
 /// At a node of the complete graph on n nodes, n - 3 splits and a series each leave the complete graph on one node less: so
@@ -124,6 +135,8 @@ fn splits_of_the_complete_graphs() {
         let mut plan = Plan::complete(nodes, HALF);
         for _ in 0..3 {
             assert_eq!(needed(Network::from(&plan)), ends - 1, "{plan:?}");
+            let whole = worked(&plan, ends - 1);
+            assert_eq!((whole.steps, whole.finished), (ends - 1, true));
             random.shuffle(&mut plan.links);
         }
     }
@@ -141,14 +154,13 @@ fn the_exact_figures_that_are_written_down() {
         ("P10, 38 of 64", Plan::alike(4, HALF, &FOUR), 593_750_000),
     ];
     for (name, plan, exact) in rows {
-        assert_eq!(
-            Exact::figure(&plan).compared(exact.into()),
-            Ordering::Equal,
-            "{name}"
-        );
+        let sum = Exact::figure(&plan);
+        assert_eq!(sum.compared(exact.into()), Ordering::Equal, "{name}");
+        assert!(sum.is_enclosed_by(&worked(&plan, 20_000)), "{name}");
     }
-    let sample = Exact::figure(&sample());
-    assert!(sample.compared(851_905_964).is_ge() && sample.compared(851_905_965).is_lt());
+    let sum = Exact::figure(&sample());
+    assert!(sum.compared(851_905_964).is_ge() && sum.compared(851_905_965).is_lt());
+    assert!(sum.is_enclosed_by(&worked(&sample(), 20_000)));
 }
 
 #[test]
@@ -163,7 +175,7 @@ fn the_listing() {
         };
         let limit = 20_000;
         let call = Call::Importance { plan, place, limit };
-        assert_eq!(held(&call, 16), Ok(Some(expected)));
+        assert_eq!(held(&call, 24), Ok(Some(expected)));
         let exact = Exact::importance(&listed(), place as usize);
         assert_eq!(exact.compared(value), Ordering::Equal);
     }
@@ -174,7 +186,13 @@ fn the_listing() {
 fn differences_by_hand() {
     let [a, b] = [listed(), Plan::alike(3, HALF, &TRIANGLE)];
     let minus = |a: &Plan, b: &Plan| {
-        let answer = difference(Network::from(a), Network::from(b), 20_000);
+        let files = [a, b].map(Plan::bytes);
+        let call = Call::Difference {
+            a: &files[0],
+            b: &files[1],
+            limit: 20_000,
+        };
+        let answer = held(&call, 24).unwrap().unwrap();
         assert!(Exact::difference(a, b).is_enclosed_by(&answer));
         (answer.low, answer.high)
     };
@@ -194,27 +212,54 @@ fn the_bytes_of_a_plan() {
         3, 0, 2, 0, 0, 1, 2, 1, 0x00, 0xca, 0x9a, 0x3b, 0xff, 0x01, 0, 0x80,
     ];
     assert_eq!(plan.bytes(), bytes);
+    assert_eq!(held(&Call::Check { plan: &bytes }, 0), Ok(None));
     assert_eq!(read(&bytes), Ok(plan));
     let lengths = [(0, S), (1, 999_700_000), (2, 999_400_090), (3, 999_100_269)];
     for (k, units) in lengths {
-        let link = Link {
-            ends: [0, 1],
-            value: LENGTH + k,
-        };
-        assert_eq!(link.units(), units);
+        let link = Plan::new(2, &[(0, 1, LENGTH + k)]);
+        assert_eq!(link.links[0].units(), units);
+        assert_eq!(worked(&link, 0).low, units.into());
+        assert_eq!(worked(&link, 0).high, units.into());
     }
 }
 
+/// Four nodes of halves against the triangle of halves, with no step and with one: each number in its four bytes.
 #[test]
 fn the_bytes_of_an_answer() {
-    let answer = Answer {
-        low: -2,
-        high: 1_000_000_000,
-        steps: 2_000_000,
-        finished: true,
-    };
-    let bytes = [
-        0xfe, 0xff, 0xff, 0xff, 0x00, 0xca, 0x9a, 0x3b, 0x80, 0x84, 0x1e, 0, 1, 0, 0, 0,
+    let [a, b] = [Plan::alike(4, HALF, &FOUR), Plan::alike(3, HALF, &TRIANGLE)];
+    let (a, b) = (&a.bytes(), &b.bytes());
+    let rows = [
+        (
+            0,
+            -500_000_001,
+            500_000_001,
+            0,
+            "ff9a32e2 0165cd1d 00000000 00000000",
+        ),
+        (
+            1,
+            93_749_998,
+            93_750_002,
+            1,
+            "ee829605 f2829605 01000000 01000000",
+        ),
     ];
-    assert_eq!(answer_bytes(&answer), bytes);
+    for (limit, low, high, steps, written) in rows {
+        let answer = Answer {
+            low,
+            high,
+            steps,
+            finished: steps > 0,
+        };
+        let digits = answer_bytes(&answer)
+            .chunks(4)
+            .map(hexadecimal)
+            .collect::<Vec<_>>();
+        assert_eq!(digits.join(" "), written);
+        hold(&Call::Difference { a, b, limit }, 24, &Ok(Some(answer)));
+    }
+}
+
+fn hexadecimal(bytes: &[u8]) -> String {
+    bytes.iter().map(|b| format!("{b:02x}")).collect()
 }

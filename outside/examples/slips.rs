@@ -1,0 +1,292 @@
+//! Wrong libraries: runs the tests against the library with one slip at a time, and shows which test catches it. By hand, not
+//! in the gate; it takes the static libraries and the listing program:
+//!
+//!     cargo run --release --offline --locked --manifest-path outside/Cargo.toml --example slips [WORD ..]
+//!
+//! tries the slips whose names have all the words, or all slips. It fails if a slip is not caught, or if a test fails without one,
+//! which is tried where no words are given.
+
+use outside::programs::ran;
+use outside::repository::{library, path};
+use std::fs;
+use std::io::{BufRead, BufReader};
+use std::path::{Path, PathBuf};
+use std::process::{Command, ExitCode, Stdio};
+
+/// Its name, and the numbers that `c/slips.c` reads.
+struct Slip {
+    name: String,
+    numbers: Vec<i64>,
+}
+
+fn slip(name: String, numbers: &[i64]) -> Slip {
+    let numbers = numbers.to_vec();
+    Slip { name, numbers }
+}
+
+const CALLS: [&str; 4] = ["check", "figure", "importance", "difference"];
+const CHECK: usize = 0;
+const IMPORTANCE: usize = 2;
+const DIFFERENCE: usize = 3;
+
+/// More steps than most tests take.
+const MANY: i64 = 50_000;
+
+/// What is wrong with an answer: the number of it, and by how much. The first six are tried everywhere, the others where that
+/// takes few steps.
+const WRONG: [(&str, i64, i64); 10] = [
+    ("low +1", 0, 1),
+    ("high -1", 1, -1),
+    ("steps +1", 2, 1),
+    ("finished turned", 3, 1),
+    ("byte behind the answer", 4, 1),
+    ("returned 1", 6, 1),
+    ("low -1", 0, -1),
+    ("high +1", 1, 1),
+    ("steps -1", 2, -1),
+    ("byte behind the buffer", 5, 128),
+];
+
+/// Where it is wrong: least and most links, finished, least and most steps.
+const WHERE: [(&str, [i64; 5]); 14] = [
+    ("small finished", [0, 16, 1, 0, i64::MAX]),
+    ("small unfinished", [0, 16, 0, 0, i64::MAX]),
+    ("large finished to 150", [17, 64, 1, 0, 150]),
+    ("large finished from 151", [17, 64, 1, 151, i64::MAX]),
+    ("large finished from 5001", [17, 64, 1, 5_001, i64::MAX]),
+    ("large finished from 50001", [17, 64, 1, 50_001, i64::MAX]),
+    ("large finished from 300001", [17, 64, 1, 300_001, i64::MAX]),
+    ("large unfinished to 150", [17, 64, 0, 0, 150]),
+    ("large unfinished from 151", [17, 64, 0, 151, i64::MAX]),
+    ("large unfinished from 5001", [17, 64, 0, 5_001, i64::MAX]),
+    ("large unfinished from 50001", [17, 64, 0, 50_001, i64::MAX]),
+    (
+        "large unfinished from 400001",
+        [17, 64, 0, 400_001, i64::MAX],
+    ),
+    ("64 links unfinished", [64, 64, 0, 1, i64::MAX]),
+    ("64 links finished", [64, 64, 1, 1, i64::MAX]),
+];
+
+fn of_answers() -> Vec<Slip> {
+    let mut slips = Vec::new();
+    for (place, [least, most, finished, from, to]) in WHERE {
+        for (call, of) in CALLS.iter().enumerate() {
+            let count = if from > MANY { 6 } else { WRONG.len() };
+            for &(wrong, what, by) in &WRONG[..count] {
+                if call != CHECK || what == 6 && finished == 1 {
+                    let numbers = [0, call as i64, what, by, least, most, finished, from, to];
+                    slips.push(slip(format!("{of}: {wrong}, {place}"), &numbers));
+                }
+            }
+        }
+    }
+    slips
+}
+
+/// The numbers of the causes that a call is refused with, without the link.
+fn causes(call: usize) -> Vec<i64> {
+    match call {
+        CHECK => (1..=6).collect(),
+        IMPORTANCE => (1..=9).collect(),
+        DIFFERENCE => (1..=7).chain([9]).chain(21..=26).collect(),
+        _ => (1..=7).chain([9]).collect(),
+    }
+}
+
+fn of_refusals() -> Vec<Slip> {
+    let mut slips = Vec::new();
+    for (call, of) in CALLS.iter().enumerate() {
+        for cause in causes(call) {
+            for (wrong, what, by) in [
+                ("another number", 6, 1),
+                ("first byte", 7, 1),
+                ("last byte", 8, 64),
+            ] {
+                if call != CHECK || what == 6 {
+                    let numbers = [1, call as i64, what, by, cause];
+                    slips.push(slip(format!("{of}: {wrong}, refused {cause}"), &numbers));
+                }
+            }
+        }
+    }
+    slips
+}
+
+const OTHERS: [(i64, &str); 36] = [
+    (2, "a limit of 1000000 is refused"),
+    (3, "a limit of 1000001 is accepted"),
+    (4, "limits are 32 bits"),
+    (5, "places are 32 bits"),
+    (6, "place m is accepted"),
+    (7, "a buffer is refused before a limit"),
+    (8, "a plan is refused before a limit"),
+    (9, "plan B is refused before plan A"),
+    (10, "a buffer of 16 bytes is refused"),
+    (11, "a place is refused before a plan"),
+    (12, "a loop has the importance of the link before it"),
+    (13, "place 63 is taken for place 62"),
+    (14, "a link of 0 is taken for one unit"),
+    (15, "a link of S is taken for S - 1"),
+    (16, "a length of 511 is taken for 510"),
+    (17, "a length of 0 is taken for a chance of 0"),
+    (18, "a limit above 65535 is taken for 65535"),
+    (19, "a limit of 1000000 is taken for 999999"),
+    (20, "the stack is overrun"),
+    (21, "the plan is kept where other threads keep theirs"),
+    (22, "a plan of 32 nodes is refused"),
+    (23, "a plan of 64 links is refused"),
+    (24, "the first plan is taken for both"),
+    (30, "a small negative low loses its sign"),
+    (31, "a negative high loses its sign"),
+    (32, "a low of -S is 0"),
+    (33, "an importance of 0 is one unit"),
+    (34, "a high of S is S - 1"),
+    (35, "steps are 20 bits"),
+    (36, "steps are 16 bits"),
+    (37, "finished is 255"),
+    (38, "low and high are exchanged where low is negative"),
+    (39, "the link is not returned"),
+    (40, "a link above 31 is not returned"),
+    (41, "the refusals of plan B are those of plan A"),
+    (42, "16 bytes are cleared on a refusal"),
+];
+
+fn slips() -> Vec<Slip> {
+    let mut slips = of_refusals();
+    slips.extend(OTHERS.map(|(kind, name)| slip(name.into(), &[kind])));
+    slips.extend(of_answers());
+    slips
+}
+
+/// Writes the libraries with slips to the folder.
+fn write_libraries(folder: &Path) {
+    fs::create_dir_all(folder).unwrap();
+    fs::copy(library("test_exports"), folder.join("libtest_exports.a")).unwrap();
+    let archive = folder.join("libdesk.a");
+    let mut rename = Command::new("objcopy");
+    for call in CALLS {
+        rename.arg(format!("--redefine-sym={call}=proved_{call}"));
+    }
+    ran(rename.arg(library("desk")).arg(&archive));
+    let object = folder.join("slips.o");
+    let flags = "-std=c11 -O1 -Wall -Wextra -Wpedantic -Werror -c -I";
+    let mut gcc = Command::new("gcc");
+    gcc.args(flags.split(' ')).arg(path("include")).arg("-o");
+    ran(gcc.arg(&object).arg(path("outside/c/slips.c")));
+    ran(Command::new("ar").arg("rs").arg(&archive).arg(&object));
+}
+
+/// The test programs of the documents, the arithmetic and the listing program, which do not make the calls.
+const APART: [&str; 5] = ["readme", "rounding", "ratings", "sample_plans", "planlist"];
+
+/// Those that take long, and are tried last.
+const LONG: [&str; 3] = ["desk_programs", "desk_stack", "desk_limits"];
+
+/// Builds the tests with the libraries in the folder, and returns the programs that make the calls.
+fn built(folder: &Path) -> Vec<PathBuf> {
+    let mut cargo = Command::new("cargo");
+    cargo.args(["test", "--release", "--offline", "--locked", "--no-run"]);
+    cargo.arg("--tests").current_dir(path("outside"));
+    cargo.env("LIBRARIES", folder);
+    cargo.arg("--target-dir").arg(folder.join("build"));
+    cargo.arg("--manifest-path").arg(path("outside/Cargo.toml"));
+    let output = cargo.output().unwrap();
+    let said = String::from_utf8(output.stderr).unwrap();
+    assert!(output.status.success(), "{said}");
+    let program = |line: &str| {
+        let (name, file) = line
+            .trim()
+            .strip_prefix("Executable tests/")?
+            .split_once('(')?;
+        let apart = APART.contains(&name.trim().strip_suffix(".rs")?);
+        (!apart).then(|| path("outside").join(file.trim_end_matches(')')))
+    };
+    let mut programs: Vec<PathBuf> = said.lines().filter_map(program).collect();
+    programs.sort_by_key(|program| LONG.iter().position(|long| *long == name(program)));
+    programs
+}
+
+/// The name of a test program, without what cargo adds.
+fn name(program: &Path) -> String {
+    let stem = program.file_stem().unwrap().to_str().unwrap();
+    stem.rsplit_once('-').map_or(stem, |(name, _)| name).into()
+}
+
+/// A test program, and one of its tests or all of them.
+type Trial = (PathBuf, Option<String>);
+
+/// Runs the tests until one fails, and returns that one. A program that ends badly without a failing test has overrun.
+fn caught((program, test): &Trial, slip: Option<&Slip>) -> Option<Trial> {
+    let mut command = Command::new(program);
+    if let Some(test) = test {
+        command.args([test, "--exact"]);
+    }
+    if let Some(slip) = slip {
+        let numbers: Vec<String> = slip.numbers.iter().map(i64::to_string).collect();
+        command.env("SLIP", numbers.join(" "));
+    }
+    command.stdout(Stdio::piped()).stderr(Stdio::null());
+    let mut run = command.current_dir(path("outside")).spawn().unwrap();
+    let lines = BufReader::new(run.stdout.take().unwrap()).lines();
+    let failed = lines.map_while(Result::ok).find_map(|line| {
+        let name = line.strip_prefix("test ")?.strip_suffix(" ... FAILED")?;
+        Some(name.to_owned())
+    });
+    if failed.is_some() {
+        let _ = run.kill();
+    }
+    let status = run.wait().unwrap();
+    match failed {
+        Some(name) => Some((program.clone(), Some(name))),
+        None => (!status.success()).then(|| (program.clone(), test.clone())),
+    }
+}
+
+fn shown((program, test): &Trial) -> String {
+    format!("{}: {}", name(program), test.as_deref().unwrap_or("ended"))
+}
+
+/// Which test catches the slip. The tests that caught one before are tried first, the last of them before all others; of slips
+/// at many steps it is the last alone, and then the programs that take long.
+fn tried(slip: &Slip, programs: &[PathBuf], before: &mut Vec<Trial>) -> Option<Trial> {
+    let late = slip.numbers.get(7).is_some_and(|from| *from > MANY);
+    let mut trials: Vec<Trial> = before.iter().rev().cloned().collect();
+    let mut whole: Vec<Trial> = programs.iter().map(|p| (p.clone(), None)).collect();
+    if late {
+        trials.truncate(1);
+        whole.reverse();
+    }
+    trials.extend(whole);
+    let found = trials.iter().find_map(|trial| caught(trial, Some(slip)))?;
+    before.retain(|trial| *trial != found);
+    before.push(found.clone());
+    Some(found)
+}
+
+fn main() -> ExitCode {
+    let words: Vec<String> = std::env::args().skip(1).collect();
+    let folder = path("target").join("slips");
+    write_libraries(&folder);
+    let programs = built(&folder.canonicalize().unwrap());
+    for program in programs.iter().filter(|_| words.is_empty()) {
+        if let Some(trial) = caught(&(program.clone(), None), None) {
+            println!("fails without a slip: {}", shown(&trial));
+            return ExitCode::FAILURE;
+        }
+    }
+    let (mut before, mut missed, mut count) = (Vec::new(), Vec::new(), 0);
+    let fits = |slip: &Slip| words.iter().all(|word| slip.name.contains(word));
+    for slip in slips().iter().filter(|slip| fits(slip)) {
+        count += 1;
+        match tried(slip, &programs, &mut before) {
+            Some(trial) => println!("{}: caught by {}", slip.name, shown(&trial)),
+            None => {
+                println!("{}: NOT CAUGHT", slip.name);
+                missed.push(slip.name.clone());
+            }
+        }
+    }
+    println!("{count} slips, {} not caught", missed.len());
+    ExitCode::from(u8::from(!missed.is_empty()))
+}
