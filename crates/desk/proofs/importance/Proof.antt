@@ -55,8 +55,9 @@ importance-requires c κs =
     let k = asks (c .before) in
     let a = c .before .before .before .before .before .before .args in
     let at = built-used (c .network-of .result) (sizeM (a .plan .now)) (c .network-of .ensures .1) in
-    let some : 0 < sizeM (a .plan .now) = omega (arith, k .3) in
-    (c .network-of .ensures .2, search (at, some, k .3), omega (arith, k .0))
+    let within = k .3 in
+    let some : 0 < sizeM (a .plan .now) = omega arith in
+    (c .network-of .ensures .2, search at, omega (arith, k .0))
 
 put-answer-requires : tie.Need-put-answer-requires
 put-answer-requires c κs = asks (c .before .before .before) .1
