@@ -29,6 +29,14 @@ fn excess(x: u32, y: u32) -> u32
     if y < x { x - y } else { 0 }
 }
 
+// The steps of two evaluations.
+fn sum(x: u32, y: u32) -> u32
+    requires { ⌜ (x < 2 ^ 31) × (y < 2 ^ 31) ⌝ }
+    ensures { λ r. ⌜ r ≡ x + y ⌝ }
+{
+    x + y
+}
+
 fn signed_difference(x: u32, y: u32) -> i32
     requires { ⌜ (x ≤ S) × (y ≤ S) ⌝ }
     ensures { λ r. ⌜ r ≡ pos x -ℤ pos y ⌝ }
@@ -141,7 +149,7 @@ fn lessened(s: Figure, b: Figure) -> Figure
 {
     let low = excess(s.low, b.high);
     let high = s.high - b.low;
-    let steps = s.steps + b.steps;
+    let steps = sum(s.steps, b.steps);
     let finished = both(s.finished, b.finished);
     Figure {
         low,
@@ -167,12 +175,12 @@ pub fn importance(net: Network, i: usize, limit: u64) -> Figure
 
 // One figure minus another, signed.
 fn minus(f: Figure, g: Figure) -> Difference
-    requires { ⌜ (f .low ≤ S) × (f .high ≤ S) × (g .low ≤ S) × (g .high ≤ S) × (f .steps + g .steps < 2 ^ 32) ⌝ }
+    requires { ⌜ (f .low ≤ S) × (f .high ≤ S) × (g .low ≤ S) × (g .high ≤ S) × (f .steps < 2 ^ 31) × (g .steps < 2 ^ 31) ⌝ }
     ensures { λ r. ⌜ r ≡ minus f g ⌝ }
 {
     let low = signed_difference(f.low, g.high);
     let high = signed_difference(f.high, g.low);
-    let steps = f.steps + g.steps;
+    let steps = sum(f.steps, g.steps);
     let finished = both(f.finished, g.finished);
     Difference {
         low,

@@ -21,7 +21,7 @@ minus-requires c κs =
     let y = figure-within (a .args .second) (a .pre .1) _ g (c .work2 .ensures) in
     let xs = steps-within (a .args .first) (a .pre .0) _ f (c .before .work .ensures) in
     let ys = steps-within (a .args .second) (a .pre .1) _ g (c .work2 .ensures) in
-    (omega (arith, x, y), omega (arith, x, y), omega (arith, x, y), omega (arith, x, y), omega (arith, xs, ys))
+    (omega (arith, x, y), omega (arith, x, y), omega (arith, x, y), omega (arith, x, y), omega (arith, xs, ys), omega (arith, xs, ys))
 
 returns : tie.Need-returns
 returns c = c .minus .ensures ∙ ap₂ minus (c .before .before .work .ensures) (c .before .work2 .ensures)

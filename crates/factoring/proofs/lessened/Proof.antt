@@ -11,16 +11,16 @@ excess-requires c κs = search needs
 sub-high : tie.Need-sub-high
 sub-high c = search needs
 
-add-steps : tie.Need-add-steps
-add-steps c = search needs
+sum-requires : tie.Need-sum-requires
+sum-requires c κs = search needs
 
 both-requires : tie.Need-both-requires
 both-requires c κs = search needs
 
 returns : tie.Need-returns
 returns c =
-    let a = c .before .before .before .before .before .before .args in
-    figure-is (lessened (a .s) (a .b)) (c .before .before .before .before .before .excess .ensures) refl refl (c .both .ensures)
+    let a = c .before .before .before .before .before .args in
+    figure-is (lessened (a .s) (a .b)) (c .before .before .before .before .excess .ensures) refl (c .before .sum .ensures) (c .both .ensures)
 
 pub lessened-spec : {M : Type 1} → statement M
-lessened-spec = tie.close (tie.spec excess-requires sub-high add-steps both-requires returns)
+lessened-spec = tie.close (tie.spec excess-requires sub-high sum-requires both-requires returns)
