@@ -10,7 +10,8 @@ use Rattle.reliability.specs.Comparisons.{soundAt}
 use Rattle.search.specs.Searches.{from}
 use Rattle.plan.specs.Plans.{rated, linkVerdict, linksVerdict, verdict, linkIn, linksIn}
 use Rattle.plan.proofs.Examples.{listed}
-use Rattle.listing.specs.Listings.{text, decimalOf, meant, filled, linkLines, listing}
+use Rattle.lines.specs.Lines.{text, decimalOf, meant, filled}
+use Rattle.listing.specs.Listings.{linkLines, listing}
 
 pub record Row : Type 0 where
   pub plan : List ℕ

@@ -7,6 +7,8 @@ use native.Mathlib.Nat.{zero-add}
 use native.Mathlib.Omega.{arith}
 use lib.ListN.{length, length-append, getD, drop}
 use lib.Seq.{length-sets, sets-eq}
+use Rattle.lines.specs.Lines.{Puts, text}
+use Rattle.lines.proofs.Theorems.{width, length-filled}
 use Rattle.reliability.specs.declared.Link.{Link}
 use Rattle.reliability.specs.declared.Figure.{Figure}
 use Rattle.reliability.specs.Rule.{figure}
@@ -16,8 +18,7 @@ use Rattle.plan.specs.declared.Verdict.{Verdict}
 use Rattle.plan.specs.declared.Verdict.the-variants.{Accepted, Refused}
 use Rattle.plan.specs.Plans.{sizeN, sizeM, verdict, linkIn, planOf}
 use Rattle.plan.proofs.Verdicts.{accepted-means}
-use Rattle.listing.specs.Listings.{limit, text, isDigit, meant, filled, sizesLine, figureLine, linkLine, lineOf, linkLines, refusedLine, listingBy, listing, Puts}
-use Rattle.listing.proofs.Texts.{length-decimal, number-meant, itself-meant}
+use Rattle.listing.specs.Listings.{limit, sizesLine, figureLine, linkLine, lineOf, linkLines, refusedLine, listingBy, listing}
 
 -- ---- link by link
 
@@ -36,20 +37,6 @@ module _ (plan : List ℕ) (m i : ℕ) where
       ap (linkLines plan i) e
 
 -- ---- lengths
-
--- the room that a line of some form takes at most, a number taking ten digits
-width : List ℕ → ℕ
-width [] = 0
-width (c ∷ form) = cond (isDigit c) 10 1 + width form
-
-length-meant : (xs : List ℕ) (c : ℕ) (t : Bool) → isDigit c ≡ t → length (meant xs c) ≤ cond t 10 1
-length-meant xs c true e = subst (λ (l : List ℕ). length l ≤ 10) (number-meant xs c e (getD xs (c - 48) 0) refl) (length-decimal (getD xs (c - 48) 0))
-length-meant xs c false e = subst (λ (l : List ℕ). length l ≤ 1) (itself-meant xs c e) (omega arith)
-
-length-filled : (xs form : List ℕ) → length (filled xs form) ≤ width form
-unfolding width filled
-length-filled xs [] = omega arith
-length-filled xs (c ∷ form) = omega (arith, length-append (meant xs c) (filled xs form), length-meant xs c (isDigit c) refl, length-filled xs form)
 
 length-sizes : (n m : ℕ) → length (sizesLine n m) ≤ 34
 unfolding width

@@ -1,4 +1,3 @@
-pub mod Texts
 pub mod Lengths
 pub mod Examples
 pub mod Theorems

@@ -4,7 +4,7 @@ use mathlib.Core.Path.{_≡_, refl, sym, ap, ap₂, _∙_}
 use mathlib.Core.List.{List, [], _∷_, _++_}
 use mathlib.Core.Bool.{Bool, true, false, not, _||_}
 use native.Mathlib.Omega.{arith}
-use native.Mathlib.Decide.{decLe, decLt}
+use native.Mathlib.Decide.{decLe}
 use lib.Dec.{eqb, ltb}
 use lib.ListN.{length, getD, take}
 use lib.Seq.{take-all, length-take-le, getD-take}
@@ -13,8 +13,7 @@ use Rattle.plan.specs.declared.Cause.the-variants.{Short, Nodes, Links, Length}
 use Rattle.plan.specs.declared.Verdict.{Verdict}
 use Rattle.plan.specs.declared.Verdict.the-variants.{Refused}
 use Rattle.plan.specs.Plans.{sizeN, sizeM, refusedIf, linksVerdict, verdict}
-use Rattle.listing.specs.Listings.{digit, decimalOf, decimal, listingBy, listing}
-use Rattle.listing.proofs.Texts.{digits-one, digits-more, tenth}
+use Rattle.listing.specs.Listings.{listingBy, listing}
 
 -- ---- an input longer than any plan
 
@@ -67,31 +66,3 @@ module _ (b : List ℕ) (k : ℕ) (more : 388 < k) where
           ap (λ (v : Verdict). listingBy v front) (too-long front (omega (arith, l)) ∙ same-sizes)
           ∙ same-text (eqb n 0 || ltb 32 n) (ltb 64 (sizeM b)) front b
           ∙ sym (ap (λ (v : Verdict). listingBy v b) (too-long b (omega arith)))
-
--- ---- a number in decimal
-
--- the number that digits spell behind those of n
-abbrev spelt : ℕ → List ℕ → ℕ
-spelt n [] = n
-spelt n (c ∷ l) = spelt (10 * n + (c - 48)) l
-
-spelt-last : (n : ℕ) (l : List ℕ) (c : ℕ) → spelt n (l ++ c ∷ []) ≡ 10 * spelt n l + (c - 48)
-spelt-last n [] c = refl
-spelt-last n (b ∷ l) c = spelt-last (10 * n + (b - 48)) l c
-
-spelt-one : (k x : ℕ) → x < 10 → spelt 0 (decimalOf (suc k) x) ≡ x
-spelt-one k x h = ap (spelt 0) (digits-one k x h) ∙ (let e : 10 * 0 + (48 + x - 48) ≡ x = omega arith in e)
-
-spelt-digits : (k x : ℕ) → x < 10 ^ suc k → spelt 0 (decimalOf (suc k) x) ≡ x
-spelt-digits zero x h = spelt-one 0 x h
-spelt-digits (suc k) x h = go (decLt x 10) (spelt-digits k (x / 10) (tenth (suc k) x h))
-  where
-    go : Dec (x < 10) → spelt 0 (decimalOf (suc k) (x / 10)) ≡ x / 10 → spelt 0 (decimalOf (suc (suc k)) x) ≡ x
-    go (yes l) e = spelt-one (suc k) x l
-    go (no n) e =
-        let all : 10 * (x / 10) + (48 + x % 10 - 48) ≡ x = omega arith in
-        ap (spelt 0) (digits-more (suc k) x (omega arith)) ∙ spelt-last 0 (decimalOf (suc k) (x / 10)) (digit (x % 10)) ∙ ap (λ (y : ℕ). 10 * y + (48 + x % 10 - 48)) e ∙ all
-
--- its digits spell it
-pub decimal-spells : (x : ℕ) → x < 2 ^ 32 → spelt 0 (decimal x) ≡ x
-decimal-spells x h = spelt-digits 9 x (omega arith)

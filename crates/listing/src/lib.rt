@@ -6,8 +6,9 @@ ghost use mathlib.Core.Path.{_≡_};
 ghost use mathlib.Core.List.{List, _++_};
 ghost use Prim.Native.Nat.{ℕ, _+_, _≤_, _<_};
 ghost use lib.ListN.{length, getD, drop};
+ghost use Rattle.lines.specs.Lines.{Puts};
 ghost use Rattle.plan.specs.Plans.{sizeM, verdict};
-ghost use Rattle.listing.specs.Listings.{Puts, decimal, isDigit, meant, filled, sizesLine, figureLine, lineOf, linkLines, refusedLine, listingBy, listing, IsRead, Lists};
+ghost use Rattle.listing.specs.Listings.{sizesLine, figureLine, lineOf, linkLines, refusedLine, listingBy, listing, IsRead, Lists};
 
 // The default limit.
 const LIMIT: u64 = 20_000;
@@ -15,71 +16,19 @@ const LIMIT: u64 = 20_000;
 // As much as there is to read of an input: one byte more than the longest plan has.
 pub const INPUT: usize = 389;
 
-// A number in decimal from a place on. Each of these functions returns the place behind what it has written.
-fn put_decimal(text: &mut [u8], at: usize, x: u32) -> usize
-    requires { ⌜ at + length (decimal x) ≤ length (now text) ⌝ }
-    ensures { λ r. ⌜ Puts (now (text .entry)) at (decimal x) (now (text .exit)) r ⌝ }
-{
-    if x < 10 {
-        text[at] = 48 + x as u8;
-        return at + 1;
-    }
-    let next = put_decimal(text, at, x / 10);
-    text[next] = 48 + (x % 10) as u8;
-    next + 1
-}
-
-fn is_digit(c: u8) -> bool
-    ensures { λ r. ⌜ r ≡ isDigit c ⌝ }
-{
-    b'0' <= c && c <= b'9'
-}
-
-// The number at place k, or 0.
-fn number_at(numbers: &[u32], k: usize) -> u32
-    ensures { λ r. ⌜ r ≡ getD (now (numbers .entry)) k 0 ⌝ }
-{
-    if k < numbers.len() { numbers[k] } else { 0 }
-}
-
-// What a character of a line's form stands for.
-fn put_meant(text: &mut [u8], at: usize, c: u8, numbers: &[u32]) -> usize
-    requires { ⌜ at + length (meant (now numbers) c) ≤ length (now text) ⌝ }
-    ensures { λ r. ⌜ Puts (now (text .entry)) at (meant (now (numbers .entry)) c) (now (text .exit)) r ⌝ }
-{
-    if is_digit(c) {
-        return put_decimal(text, at, number_at(numbers, (c - b'0') as usize));
-    }
-    text[at] = c;
-    at + 1
-}
-
-// A line of that form.
-fn put_line(text: &mut [u8], at: usize, form: &[u8], numbers: &[u32]) -> usize
-    requires { ⌜ at + length (filled (now numbers) (now form)) ≤ length (now text) ⌝ }
-    ensures { λ r. ⌜ Puts (now (text .entry)) at (filled (now (numbers .entry)) (now (form .entry))) (now (text .exit)) r ⌝ }
-{
-    let mut next = at;
-    let mut i = 0;
-    while i < form.len() {
-        next = put_meant(text, next, form[i], numbers);
-        i += 1;
-    }
-    next
-}
-
+// Each of these functions returns the place behind what it has written.
 fn put_sizes(text: &mut [u8], n: u16, m: u16) -> usize
     requires { ⌜ length (sizesLine n m) ≤ length (now text) ⌝ }
     ensures { λ r. ⌜ Puts (now (text .entry)) 0 (sizesLine n m) (now (text .exit)) r ⌝ }
 {
-    put_line(text, 0, b"nodes 0 links 1\n", &[n as u32, m as u32])
+    lines::put_line(text, 0, b"nodes 0 links 1\n", &[n as u32, m as u32])
 }
 
 fn put_figure(text: &mut [u8], at: usize, f: Figure) -> usize
     requires { ⌜ at + length (figureLine f) ≤ length (now text) ⌝ }
     ensures { λ r. ⌜ Puts (now (text .entry)) at (figureLine f) (now (text .exit)) r ⌝ }
 {
-    put_line(
+    lines::put_line(
         text,
         at,
         b"low 0 high 1 steps 2 finished 3\n",
@@ -94,7 +43,7 @@ fn put_link(text: &mut [u8], at: usize, plan: &[u8], i: usize) -> usize
 {
     let e = plan::link_at(plan, i);
     let f = factoring::importance(plan::network_of(plan), i, LIMIT);
-    put_line(
+    lines::put_line(
         text,
         at,
         b"link 0 1 2 3 4 5\n",
@@ -131,7 +80,7 @@ fn put_refusal(text: &mut [u8], c: Cause) -> usize
     requires { ⌜ length (refusedLine c) ≤ length (now text) ⌝ }
     ensures { λ r. ⌜ Puts (now (text .entry)) 0 (refusedLine c) (now (text .exit)) r ⌝ }
 {
-    put_line(
+    lines::put_line(
         text,
         0,
         b"refused 0 at 1\n",

@@ -5,13 +5,14 @@ use mir.Val.{boolByte}
 use lib.ListN.{length}
 use Rattle.reliability.specs.declared.Figure.{Figure}
 use Rattle.factoring.proofs.Marks.{as-byte}
-use Rattle.listing.specs.Listings.{Puts, text, filled, figureLine}
+use Rattle.lines.specs.Lines.{Puts, text, filled}
+use Rattle.listing.specs.Listings.{figureLine}
 use borrow.Author.Needs.{needs}
 use Rattle.listing.proofs.put_figure.Statement.{statement}
 use Rattle.listing.proofs.put_figure.Tie as tie
 use Rattle.listing.proofs.put_figure.Reads as reads
 use Rattle.listing.proofs.put_figure.Lts as lts
-use Rattle.listing.proofs.put_line.Reads as put-line-reads
+use Rattle.lines.proofs.put_line.Reads as put-line-reads
 
 line : (f : Figure) → filled (f .low ∷ f .high ∷ f .steps ∷ boolByte (f .finished) ∷ []) (text "low 0 high 1 steps 2 finished 3\n") ≡ figureLine f
 line f = ap (λ (t : ℕ). filled (f .low ∷ f .high ∷ f .steps ∷ t ∷ []) (text "low 0 high 1 steps 2 finished 3\n")) (as-byte (f .finished))

@@ -10,14 +10,15 @@ use Rattle.plan.proofs.Verdicts.{accepted-means}
 use Rattle.reader.specs.Layout.{sizeM}
 use Rattle.plan.proofs.Accepted.{stands-importance}
 use Rattle.network.proofs.Picks.{built-used}
-use Rattle.listing.specs.Listings.{limit, Puts, linkLine, lineOf}
+use Rattle.listing.specs.Listings.{limit, linkLine, lineOf}
+use Rattle.lines.specs.Lines.{Puts}
 use borrow.Author.Needs.{needs}
 use Rattle.listing.proofs.put_link.Statement.{statement}
 use Rattle.listing.proofs.put_link.Tie as tie
 use Rattle.listing.proofs.put_link.Reads as reads
 use Rattle.listing.proofs.put_link.Lts as lts
 use Rattle.factoring.proofs.importance.Reads as importance-reads
-use Rattle.listing.proofs.put_line.Reads as put-line-reads
+use Rattle.lines.proofs.put_line.Reads as put-line-reads
 use Rattle.plan.proofs.link_at.Reads as link-at-reads
 use Rattle.plan.proofs.network_of.Reads as network-of-reads
 

@@ -6,8 +6,9 @@ use lib.ListN.{length}
 use lib.Seq.{sets}
 use Rattle.plan.specs.Plans.{sizeM}
 use Rattle.plan.proofs.Verdicts.{accepted-means}
-use Rattle.listing.specs.Listings.{Puts, lineOf, linkLines}
-use Rattle.listing.proofs.Texts.{Remaining, begun, room, goes-on, done}
+use Rattle.listing.specs.Listings.{lineOf, linkLines}
+use Rattle.lines.specs.Lines.{Puts}
+use Rattle.lines.proofs.Texts.{Remaining, begun, room, goes-on, done}
 use Rattle.listing.proofs.Lengths.{links-next, links-none}
 use borrow.Author.Needs.{needs}
 use Rattle.listing.proofs.put_links.Statement.{statement}

@@ -11,7 +11,7 @@ use Rattle.plan.specs.declared.Verdict.the-variants.{Accepted}
 use Rattle.plan.specs.Plans.{sizeN, sizeM, planOf}
 use Rattle.plan.proofs.Verdicts.{accepted-means}
 use Rattle.listing.specs.Listings.{limit, sizesLine, figureLine, linkLines, listingBy}
-use Rattle.listing.proofs.Texts.{Remaining, begun, room, goes-on, done}
+use Rattle.lines.proofs.Texts.{Remaining, begun, room, goes-on, done}
 use borrow.Author.Needs.{needs}
 use Rattle.listing.proofs.put_plan.Statement.{statement}
 use Rattle.listing.proofs.put_plan.Tie as tie

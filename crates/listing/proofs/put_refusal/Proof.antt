@@ -5,13 +5,14 @@ use mathlib.Core.List.{List, [], _∷_}
 use lib.ListN.{length}
 use Rattle.plan.specs.declared.Cause.{Cause}
 use Rattle.plan.specs.Plans.{number, namedLink}
-use Rattle.listing.specs.Listings.{Puts, text, filled, refusedLine}
+use Rattle.lines.specs.Lines.{Puts, text, filled}
+use Rattle.listing.specs.Listings.{refusedLine}
 use borrow.Author.Needs.{needs}
 use Rattle.listing.proofs.put_refusal.Statement.{statement}
 use Rattle.listing.proofs.put_refusal.Tie as tie
 use Rattle.listing.proofs.put_refusal.Reads as reads
 use Rattle.listing.proofs.put_refusal.Lts as lts
-use Rattle.listing.proofs.put_line.Reads as put-line-reads
+use Rattle.lines.proofs.put_line.Reads as put-line-reads
 use Rattle.plan.proofs.named_link.Reads as named-link-reads
 use Rattle.plan.proofs.number_of.Reads as number-of-reads
 

@@ -4,16 +4,16 @@ use mathlib.Core.List.{List, [], _∷_}
 use mathlib.Core.Bool.{true}
 use native.Mathlib.Omega.{arith}
 use lib.ListN.{length, set}
-use Rattle.listing.specs.Listings.{Puts, decimal, isDigit, meant}
-use Rattle.listing.proofs.Texts.{at-least-zero, number-meant, itself-meant}
+use Rattle.lines.specs.Lines.{Puts, decimal, isDigit, meant}
+use Rattle.lines.proofs.Texts.{at-least-zero, number-meant, itself-meant}
 use borrow.Author.Needs.{needs}
-use Rattle.listing.proofs.put_meant.Statement.{statement}
-use Rattle.listing.proofs.put_meant.Tie as tie
-use Rattle.listing.proofs.put_meant.Reads as reads
-use Rattle.listing.proofs.put_meant.Lts as lts
-use Rattle.listing.proofs.is_digit.Reads as is-digit-reads
-use Rattle.listing.proofs.number_at.Reads as number-at-reads
-use Rattle.listing.proofs.put_decimal.Reads as put-decimal-reads
+use Rattle.lines.proofs.put_meant.Statement.{statement}
+use Rattle.lines.proofs.put_meant.Tie as tie
+use Rattle.lines.proofs.put_meant.Reads as reads
+use Rattle.lines.proofs.put_meant.Lts as lts
+use Rattle.lines.proofs.is_digit.Reads as is-digit-reads
+use Rattle.lines.proofs.number_at.Reads as number-at-reads
+use Rattle.lines.proofs.put_decimal.Reads as put-decimal-reads
 
 is-digit-requires : tie.Need-is-digit-requires
 is-digit-requires c κs = search needs

@@ -11,7 +11,7 @@ use lib.Dec.{leb}
 use lib.ListN.{length, length-append, getD, set, drop, drop-of-length-le}
 use lib.Seq.{sets, length-sets, drop-cons}
 use borrow.Author.Tests.{lt-ltb, le-ltb, leb-true}
-use Rattle.listing.specs.Listings.{Puts, digit, decimalOf, decimal, isDigit, meant, filled}
+use Rattle.lines.specs.Lines.{Puts, digit, decimalOf, decimal, isDigit, meant, filled}
 
 sets-append : (l : List ℕ) (i : ℕ) (s t : List ℕ) → sets (sets l i s) (i + length s) t ≡ sets l i (s ++ t)
 sets-append l i [] t = ap (λ (k : ℕ). sets l k t) (add-zero i)

@@ -2,14 +2,14 @@ use Prim.Native.Nat.{_+_, _-_, _≤_}
 use native.Mathlib.Omega.{arith}
 use lib.ListN.{length, getD, drop}
 use lib.Seq.{sets}
-use Rattle.listing.specs.Listings.{meant, filled}
-use Rattle.listing.proofs.Texts.{Remaining, begun, room, goes-on, done, filled-none, filled-next}
+use Rattle.lines.specs.Lines.{meant, filled}
+use Rattle.lines.proofs.Texts.{Remaining, begun, room, goes-on, done, filled-none, filled-next}
 use borrow.Author.Needs.{needs}
-use Rattle.listing.proofs.put_line.Statement.{statement}
-use Rattle.listing.proofs.put_line.Tie as tie
-use Rattle.listing.proofs.put_line.Reads as reads
-use Rattle.listing.proofs.put_line.Lts as lts
-use Rattle.listing.proofs.put_meant.Reads as put-meant-reads
+use Rattle.lines.proofs.put_line.Statement.{statement}
+use Rattle.lines.proofs.put_line.Tie as tie
+use Rattle.lines.proofs.put_line.Reads as reads
+use Rattle.lines.proofs.put_line.Lts as lts
+use Rattle.lines.proofs.put_meant.Reads as put-meant-reads
 
 abbrev Inv-loop : tie.InvT-loop
 Inv-loop text₀ at form numbers next₀ i₀ text next i = (i ≤ length form) × Remaining text next (filled numbers (drop i form)) (sets text₀ at (filled numbers form)) (at + length (filled numbers form)) (length text₀)

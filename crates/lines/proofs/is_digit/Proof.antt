@@ -1,9 +1,9 @@
 use mathlib.Core.Path.{refl}
 use borrow.Author.Tests.{le-leb, lt-leb}
-use Rattle.listing.proofs.is_digit.Statement.{statement}
-use Rattle.listing.proofs.is_digit.Tie as tie
-use Rattle.listing.proofs.is_digit.Reads as reads
-use Rattle.listing.proofs.is_digit.Lts as lts
+use Rattle.lines.proofs.is_digit.Statement.{statement}
+use Rattle.lines.proofs.is_digit.Tie as tie
+use Rattle.lines.proofs.is_digit.Reads as reads
+use Rattle.lines.proofs.is_digit.Lts as lts
 
 returns : tie.Need-returns
 returns c = rw (le-leb 48 (c .before .args .c) (c .if1 .taken)) refl

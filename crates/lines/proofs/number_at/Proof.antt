@@ -1,10 +1,10 @@
 use mathlib.Core.Path.{sym}
 use lib.ListN.{List·getD-eq-default}
 use borrow.Author.Needs.{needs}
-use Rattle.listing.proofs.number_at.Statement.{statement}
-use Rattle.listing.proofs.number_at.Tie as tie
-use Rattle.listing.proofs.number_at.Reads as reads
-use Rattle.listing.proofs.number_at.Lts as lts
+use Rattle.lines.proofs.number_at.Statement.{statement}
+use Rattle.lines.proofs.number_at.Tie as tie
+use Rattle.lines.proofs.number_at.Reads as reads
+use Rattle.lines.proofs.number_at.Lts as lts
 
 mul-result : tie.Need-mul-result
 mul-result c = search needs
