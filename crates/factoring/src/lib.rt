@@ -115,7 +115,7 @@ pub fn work(net: Network, limit: u64) -> Figure
     requires { ⌜ Invariant net × (limit < 2 ^ 32) ⌝ }
     ensures { λ r. ⌜ r ≡ figure (networkOf net) limit ⌝ }
 {
-    match net.step() {
+    match steps::step(net) {
         Step::OneNode => settled(1_000_000_000),
         Step::Disconnected => settled(0),
         Step::Loop(i) => work(net.deleted(i), limit),

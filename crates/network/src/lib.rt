@@ -187,34 +187,4 @@ impl Network {
         self.alive = alive;
         self
     }
-
-    // Which step fits.
-    pub fn step(self) -> Step
-        requires { ⌜ Invariant self ⌝ }
-        ensures { λ r. ⌜ Fitting self r ⌝ }
-    {
-        let alive = self.alive;
-        let nodes = self.nodes as u64;
-        if let search::Found::At(i) = search::first_loop(alive, &self.a, &self.b) {
-            return Step::Loop(i);
-        }
-        if search::at_most_one(nodes) {
-            return Step::OneNode;
-        }
-        let at = search::incidence(alive, &self.a, &self.b);
-        if !search::connects(nodes, alive, &at, &self.a, &self.b) {
-            return Step::Disconnected;
-        }
-        if let search::Pair::Both(i, j) = search::first_pair(alive, &at, &self.a, &self.b) {
-            return Step::Parallel(i, j);
-        }
-        if let search::Found::At(v) = search::lowest_with(1, nodes, &at) {
-            return Step::End(v, bits::lowest(at[v]));
-        }
-        if let search::Found::At(v) = search::lowest_with(2, nodes, &at) {
-            let s = at[v];
-            return Step::Series(v, bits::lowest(s), bits::lowest(bits::without_lowest(s)));
-        }
-        Step::Split(bits::lowest(alive))
-    }
 }

@@ -28,7 +28,7 @@ use Rattle.network.proofs.Network.end.Reads as end-reads
 use Rattle.network.proofs.Network.link.Reads as link-reads
 use Rattle.network.proofs.Network.parallel.Reads as parallel-reads
 use Rattle.network.proofs.Network.series.Reads as series-reads
-use Rattle.network.proofs.Network.step.Reads as step-reads
+use Rattle.steps.proofs.step.Reads as step-reads
 use Rattle.factoring.proofs.blend.Reads as blend-reads
 use Rattle.factoring.proofs.settled.Reads as settled-reads
 use Rattle.factoring.proofs.times.Reads as times-reads

@@ -9,13 +9,13 @@ use borrow.Author.Needs.{needs}
 use borrow.Author.Tests.{leb-false, not-true, not-false}
 use Rattle.bits.specs.Members.{members, howMany}
 use Rattle.search.specs.Searches.{loops, withLinks}
 use Rattle.network.proofs.Picks.{Sized}
 use Rattle.search.proofs.Marks.{counted-some}
 use Rattle.search.proofs.Answers.{missed}
-use Rattle.network.proofs.Ends.{ended, bounded}
-use Rattle.network.proofs.Next.{Whole, Unpaired, loop-right, one-right, apart-right, pair-right, node, end-right, series-right, split-right}
-use Rattle.network.proofs.Network.step.Statement.{statement}
-use Rattle.network.proofs.Network.step.Tie as tie
+use Rattle.steps.proofs.Ends.{ended, bounded}
+use Rattle.steps.proofs.Next.{Whole, Unpaired, loop-right, one-right, apart-right, pair-right, node, end-right, series-right, split-right}
+use Rattle.steps.proofs.step.Statement.{statement}
+use Rattle.steps.proofs.step.Tie as tie
 
 sized : (c : tie.Start) → Sized (c .args .t1)
 sized c = search needs

@@ -14,17 +14,17 @@ use Rattle.reliability.specs.declared.Step.the-variants.{OneNode, Disconnected,
 use Rattle.reliability.specs.Networks.{Valid, ends, connected}
 use Rattle.reliability.specs.Rule.{isLoop, firstAt, firstPair, lowest, endOf, seriesOf, chosen, _otherwise_, next}
 use Rattle.reliability.proofs.Steps.{Fits, fits}
 use Rattle.network.specs.declared.Network.{Network}
 use Rattle.search.specs.declared.Found.the-variants.{At}
 use Rattle.search.specs.declared.Pair.the-variants.{Both, Neither}
 use Rattle.search.specs.Searches.{pick, placesIn, endsByPlace, touching, Incidence, found, loops, beside, pairIn, withLinks}
 use Rattle.network.specs.Places.{rank, networkOf, linksOf, nodesOf, indexOf, Used, ranked, Fitting}
 use Rattle.search.proofs.Sets.{has, has-place, has-below, mem-has, at-node}
 use Rattle.network.proofs.Picks.{Sized, allRows}
 use Rattle.search.proofs.Marks.{Lowest, length-places, lowest-in, lowest-first, lowest-rest, rest-count, rest-within}
 use Rattle.search.proofs.Answers.{first, hit, pair-members}
-use Rattle.network.proofs.Ends.{links-ends}
-use Rattle.network.proofs.Rules.{paired, next-by, loop-rule, pair-rule, end-rule, series-rule}
+use Rattle.steps.proofs.Ends.{links-ends}
+use Rattle.steps.proofs.Rules.{paired, next-by, loop-rule, pair-rule, end-rule, series-rule}
 
 pick-count : {A : Type 0} (us : List Bool) (xs : List A) → length (pick us xs) ≤ howMany us
 unfolding pick
