@@ -1,8 +1,8 @@
--- One law for an answer or a refusal, one for what a figure's call accepts, one for an answer read back.
+-- One law for an answer or a refusal, one for an answer read back.
 use Prim.Native.Nat.{ℕ, suc, _-_, _*_, _^_, _≤_, _<_, max}
 use mathlib.Core.Path.{_≡_, refl, sym, ap, _∙_, subst}
 use mathlib.Core.List.{List}
-use mathlib.Core.Logic.{_⊎_, inl, inr, _↔_, Iff·trans}
+use mathlib.Core.Logic.{_⊎_, inl, inr, _↔_}
 use mathlib.Core.Bool.{Bool, true, false, cond, _&&_}
 use native.Mathlib.Omega.{arith}
 use lib.Dec.{leb}
@@ -13,20 +13,30 @@ use borrow.Author.Tests.{lt-ltb, le-ltb, le-leb, lt-leb, leb-true, leb-false}
 use Rattle.words.proofs.Laws.{whole32}
 use Rattle.reliability.specs.declared.Figure.{Figure}
 use Rattle.reliability.specs.Networks.{Valid}
-use Rattle.plan.specs.Plans.{WellFormed, verdict, planOf}
+use Rattle.plan.specs.Plans.{WellFormed, planOf}
 use Rattle.plan.proofs.Verdicts.{accepted-means}
 use Rattle.plan.proofs.Accepted.{plan-valid}
-use Rattle.desk.specs.declared.CallVerdict.{CallVerdict}
-use Rattle.desk.specs.declared.CallVerdict.the-variants.{Accepted, Refused}
-use Rattle.desk.specs.Outcomes.{twos, withFigure, callReturned, asked, planned, figureVerdict, Outcome, unless}
+use Rattle.refusals.specs.declared.CallCause.{CallCause}
+use Rattle.refusals.specs.declared.CallVerdict.{CallVerdict}
+use Rattle.refusals.specs.declared.CallVerdict.the-variants.{Accepted, Refused}
+use Rattle.refusals.specs.Refusals.{callReturned}
+use Rattle.refusals.proofs.Calls.{call-number-range, zero-accepted}
+use Rattle.desk.specs.Outcomes.{twos, withFigure, Outcome, unless}
 use Rattle.desk.specs.Answers.{lowIn, highIn, stepsIn, finishedIn, signed, Holds, Marked, Full, Refusal}
-use Rattle.desk.proofs.Calls.{call-number-range, zero-accepted, asked-means, planned-means, also-means}
 
 -- ---- accepted or refused
 
 pub returned-of : (v : CallVerdict) (b answer : List ℕ) → unless v b answer .returned ≡ callReturned v
 returned-of Accepted b answer = refl
 returned-of (Refused c) b answer = refl
+
+module _ (v : CallVerdict) (b answer : List ℕ) where
+  -- a refused call returns the verdict's number and leaves the buffer
+  pub refused : (c : CallCause) → v ≡ Refused c → (callReturned v ≡ unless v b answer .returned) × (b ≡ unless v b answer .buffer)
+  refused c e = rw e (refl, refl)
+
+  pub answers : v ≡ Accepted → (0 ≡ unless v b answer .returned) × (answer ≡ unless v b answer .buffer)
+  answers e = rw e (refl, refl)
 
 -- 0 is returned exactly where the verdict is accepted
 pub zero-of : {r : ℕ} (v : CallVerdict) → r ≡ callReturned v → r ≡ 0 ↔ v ≡ Accepted
@@ -36,14 +46,6 @@ pub full-or-refused : (f : Figure) (b : List ℕ) (v : CallVerdict) → (v ≡ A
     → Full (unless v b (withFigure f b)) b (withFigure f b) ⊎ Refusal (unless v b (withFigure f b)) b
 full-or-refused f b Accepted room = inl (record { zero = refl; written = refl; later = refl; size = omega (arith, room refl, length-drop 16 b) })
 full-or-refused f b (Refused c) room = inr (record { numbered = omega (arith, call-number-range c); untouched = refl })
-
--- the causes of a figure: the limit, the buffer, the plan
-pub figure-means : (plan : List ℕ) (limit room : ℕ) → figureVerdict plan limit room ≡ Accepted ↔ (limit ≤ 1000000) × (16 ≤ room) × WellFormed plan
-figure-means plan limit room =
-    let a = asked-means limit room in
-    let p = Iff·trans (planned-means (verdict plan)) (accepted-means plan) in
-    let e = also-means (asked limit room) (planned (verdict plan)) in
-    (λ h. (a .0 (e .0 h .0) .0, a .0 (e .0 h .0) .1, p .0 (e .0 h .1)), λ h. e .1 (a .1 (h .0, h .1), p .1 (h .2)))
 
 pub valid-of : (plan : List ℕ) → WellFormed plan → Valid (planOf plan)
 valid-of plan w = plan-valid plan (accepted-means plan .1 w)

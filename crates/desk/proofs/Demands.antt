@@ -16,11 +16,13 @@ use Rattle.reliability.proofs.Theorems as rule
 use Rattle.plan.specs.Plans.{WellFormed, sizeN, sizeM, verdict, planOf}
 use Rattle.plan.proofs.Verdicts.{accepted-means, zero-means}
 use Rattle.plan.proofs.Accepted.{plan-equal, plan-links, plan-nodes}
-use Rattle.desk.specs.declared.CallVerdict.{CallVerdict}
-use Rattle.desk.specs.declared.CallVerdict.the-variants.{Accepted}
-use Rattle.desk.specs.Outcomes.{withFigure, callReturned, Outcome, figureVerdict, checkOutcome, figureOutcome}
+use Rattle.refusals.specs.declared.CallVerdict.{CallVerdict}
+use Rattle.refusals.specs.declared.CallVerdict.the-variants.{Accepted}
+use Rattle.refusals.specs.Refusals.{callReturned, figureVerdict}
+use Rattle.refusals.proofs.Calls.{figure-means}
+use Rattle.desk.specs.Outcomes.{withFigure, Outcome, checkOutcome, figureOutcome}
 use Rattle.desk.specs.Answers.{lowIn, highIn, stepsIn, finishedIn, Holds, LiesWithin, Marked, Full, Refusal}
-use Rattle.desk.proofs.Answers.{full-or-refused, returned-of, zero-of, figure-means, valid-of, read-back, marked, mark-true}
+use Rattle.desk.proofs.Answers.{full-or-refused, returned-of, zero-of, valid-of, read-back, marked, mark-true}
 
 -- demand 1: check accepts a plan that meets none of the causes 1 to 6, and no other
 pub check-accepted : (plan : List ℕ) → checkOutcome plan ≡ 0 ↔ WellFormed plan

@@ -20,12 +20,13 @@ use Rattle.reliability.proofs.Comparisons as rule
 use Rattle.plan.specs.Plans.{WellFormed, sizeN, sizeM, verdict, planOf}
 use Rattle.plan.proofs.Verdicts.{accepted-means}
 use Rattle.plan.proofs.Accepted.{plan-equal, plan-links, plan-nodes}
-use Rattle.desk.specs.declared.CallVerdict.{CallVerdict}
-use Rattle.desk.specs.declared.CallVerdict.the-variants.{Accepted}
-use Rattle.desk.specs.Outcomes.{twos, withDifference, callReturned, plannedSecond, Outcome, figureVerdict, differenceVerdict, differenceOutcome}
+use Rattle.refusals.specs.declared.CallVerdict.{CallVerdict}
+use Rattle.refusals.specs.declared.CallVerdict.the-variants.{Accepted}
+use Rattle.refusals.specs.Refusals.{callReturned, plannedSecond, figureVerdict, differenceVerdict}
+use Rattle.refusals.proofs.Calls.{figure-means, also-means, second-means}
+use Rattle.desk.specs.Outcomes.{twos, withDifference, Outcome, differenceOutcome}
 use Rattle.desk.specs.Answers.{lowIn, highIn, stepsIn, finishedIn, signed, HoldsSigned, LiesWithinSigned, Marked, Full, Refusal}
-use Rattle.desk.proofs.Calls.{also-means, second-means}
-use Rattle.desk.proofs.Answers.{full-or-refused, returned-of, zero-of, figure-means, valid-of, read-back, signed-back, twos-range, marked, both-finished, mark-true}
+use Rattle.desk.proofs.Answers.{full-or-refused, returned-of, zero-of, valid-of, read-back, signed-back, twos-range, marked, both-finished, mark-true}
 
 module _ (first second : List ℕ) (limit : ℕ) (b : List ℕ) where
   abbrev o : Outcome

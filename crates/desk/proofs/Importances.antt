@@ -16,12 +16,13 @@ use Rattle.reliability.proofs.Comparisons as rule
 use Rattle.reader.specs.Layout.{sizeN, sizeM, firstEnd, secondEnd}
 use Rattle.plan.specs.Plans.{WellFormed, planOf}
 use Rattle.plan.proofs.Accepted.{plan-equal, plan-links, plan-nodes, plan-ends}
-use Rattle.desk.specs.declared.CallVerdict.{CallVerdict}
-use Rattle.desk.specs.declared.CallVerdict.the-variants.{Accepted}
-use Rattle.desk.specs.Outcomes.{withFigure, callReturned, placed, Outcome, figureVerdict, importanceVerdict, importanceOutcome}
+use Rattle.refusals.specs.declared.CallVerdict.{CallVerdict}
+use Rattle.refusals.specs.declared.CallVerdict.the-variants.{Accepted}
+use Rattle.refusals.specs.Refusals.{callReturned, placed, figureVerdict, importanceVerdict}
+use Rattle.refusals.proofs.Calls.{figure-means, also-means, placed-means}
+use Rattle.desk.specs.Outcomes.{withFigure, Outcome, importanceOutcome}
 use Rattle.desk.specs.Answers.{lowIn, highIn, stepsIn, finishedIn, Holds, LiesWithin, Marked, Full, Refusal}
-use Rattle.desk.proofs.Calls.{also-means, placed-means}
-use Rattle.desk.proofs.Answers.{full-or-refused, returned-of, zero-of, figure-means, valid-of, read-back, marked, both-finished, mark-true}
+use Rattle.desk.proofs.Answers.{full-or-refused, returned-of, zero-of, valid-of, read-back, marked, both-finished, mark-true}
 
 module _ (plan : List ℕ) (place limit : ℕ) (b : List ℕ) where
   abbrev o : Outcome

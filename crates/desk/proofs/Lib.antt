@@ -1,5 +1,4 @@
 pub mod TwosComplement
-pub mod Calls
 pub mod Answers
 pub mod Demands
 pub mod Importances

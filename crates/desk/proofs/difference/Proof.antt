@@ -9,11 +9,13 @@ use Rattle.reliability.specs.Networks.{Network as Graph}
 use Rattle.reliability.specs.Comparisons.{difference}
 use Rattle.plan.specs.declared.Verdict.the-variants.{Accepted as PlanAccepted}
 use Rattle.plan.specs.Plans.{verdict, planOf}
-use Rattle.desk.specs.declared.CallCause.{CallCause}
-use Rattle.desk.specs.declared.CallVerdict.{CallVerdict}
-use Rattle.desk.specs.declared.CallVerdict.the-variants.{Accepted, Refused}
-use Rattle.desk.specs.Outcomes.{callReturned, asked, planned, plannedSecond, also, figureVerdict, differenceVerdict, answered, twos, withDifference, differenceOutcome}
-use Rattle.desk.proofs.Calls.{asked-means, planned-means, second-means, also-means, refused, answers}
+use Rattle.refusals.specs.declared.CallCause.{CallCause}
+use Rattle.refusals.specs.declared.CallVerdict.{CallVerdict}
+use Rattle.refusals.specs.declared.CallVerdict.the-variants.{Accepted, Refused}
+use Rattle.refusals.specs.Refusals.{callReturned, asked, planned, plannedSecond, also, figureVerdict, differenceVerdict}
+use Rattle.refusals.proofs.Calls.{asked-means, planned-means, second-means, also-means}
+use Rattle.desk.specs.Outcomes.{answered, twos, withDifference, differenceOutcome}
+use Rattle.desk.proofs.Answers.{refused, answers}
 use borrow.Author.Needs.{needs}
 use Rattle.desk.proofs.difference.Statement.{statement}
 use Rattle.desk.proofs.difference.Tie as tie

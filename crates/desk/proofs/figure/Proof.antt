@@ -7,9 +7,11 @@ use Rattle.reliability.specs.Networks.{Network as Graph}
 use Rattle.reliability.specs.Rule.{figure}
 use Rattle.plan.specs.declared.Verdict.the-variants.{Accepted as PlanAccepted}
 use Rattle.plan.specs.Plans.{verdict, planOf}
-use Rattle.desk.specs.declared.CallVerdict.the-variants.{Accepted}
-use Rattle.desk.specs.Outcomes.{callReturned, asked, planned, figureVerdict, figureOutcome, withFigure}
-use Rattle.desk.proofs.Calls.{asked-means, planned-means, also-means, refused, answers}
+use Rattle.refusals.specs.declared.CallVerdict.the-variants.{Accepted}
+use Rattle.refusals.specs.Refusals.{callReturned, asked, planned, figureVerdict}
+use Rattle.refusals.proofs.Calls.{asked-means, planned-means, also-means}
+use Rattle.desk.specs.Outcomes.{figureOutcome, withFigure}
+use Rattle.desk.proofs.Answers.{refused, answers}
 use borrow.Author.Needs.{needs}
 use Rattle.desk.proofs.figure.Statement.{statement}
 use Rattle.desk.proofs.figure.Tie as tie

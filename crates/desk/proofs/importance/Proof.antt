@@ -8,9 +8,11 @@ use Rattle.plan.specs.declared.Verdict.the-variants.{Accepted as PlanAccepted}
 use Rattle.plan.specs.Plans.{sizeM, verdict, planOf}
 use Rattle.network.proofs.Picks.{built-used}
 use Rattle.plan.proofs.Accepted.{stands-importance}
-use Rattle.desk.specs.declared.CallVerdict.the-variants.{Accepted}
-use Rattle.desk.specs.Outcomes.{callReturned, asked, planned, placed, figureVerdict, importanceVerdict, importanceOutcome, withFigure}
-use Rattle.desk.proofs.Calls.{asked-means, planned-means, placed-means, also-means, refused, answers}
+use Rattle.refusals.specs.declared.CallVerdict.the-variants.{Accepted}
+use Rattle.refusals.specs.Refusals.{callReturned, asked, planned, placed, figureVerdict, importanceVerdict}
+use Rattle.refusals.proofs.Calls.{asked-means, planned-means, placed-means, also-means}
+use Rattle.desk.specs.Outcomes.{importanceOutcome, withFigure}
+use Rattle.desk.proofs.Answers.{refused, answers}
 use borrow.Author.Needs.{needs}
 use Rattle.desk.proofs.importance.Statement.{statement}
 use Rattle.desk.proofs.importance.Tie as tie

@@ -1,8 +1,8 @@
 use mathlib.Core.Path.{ap}
 use borrow.Author.Needs.{needs}
-use Rattle.desk.specs.Outcomes.{callReturned}
-use Rattle.desk.proofs.call_returned.Statement.{statement}
-use Rattle.desk.proofs.call_returned.Tie as tie
+use Rattle.refusals.specs.Refusals.{callReturned}
+use Rattle.refusals.proofs.call_returned.Statement.{statement}
+use Rattle.refusals.proofs.call_returned.Tie as tie
 
 enum-told : tie.Need-enum-told
 enum-told c = search needs

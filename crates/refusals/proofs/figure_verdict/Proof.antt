@@ -1,10 +1,10 @@
 use mathlib.Core.Path.{sym, ap, _∙_}
-use Rattle.desk.specs.declared.CallVerdict.{CallVerdict}
+use Rattle.refusals.specs.declared.CallVerdict.{CallVerdict}
 use Rattle.plan.specs.Plans.{verdict}
-use Rattle.desk.specs.Outcomes.{planned, also}
+use Rattle.refusals.specs.Refusals.{planned, also}
 use borrow.Author.Needs.{needs}
-use Rattle.desk.proofs.figure_verdict.Statement.{statement}
-use Rattle.desk.proofs.figure_verdict.Tie as tie
+use Rattle.refusals.proofs.figure_verdict.Statement.{statement}
+use Rattle.refusals.proofs.figure_verdict.Tie as tie
 
 asked-verdict-requires : tie.Need-asked-verdict-requires
 asked-verdict-requires c κs = search needs

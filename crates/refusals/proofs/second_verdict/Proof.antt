@@ -1,8 +1,8 @@
 use mathlib.Core.Path.{sym, ap, _∙_}
 use borrow.Author.Needs.{needs}
-use Rattle.desk.specs.Outcomes.{plannedSecond}
-use Rattle.desk.proofs.second_verdict.Statement.{statement}
-use Rattle.desk.proofs.second_verdict.Tie as tie
+use Rattle.refusals.specs.Refusals.{plannedSecond}
+use Rattle.refusals.proofs.second_verdict.Statement.{statement}
+use Rattle.refusals.proofs.second_verdict.Tie as tie
 
 verdict-of-requires : tie.Need-verdict-of-requires
 verdict-of-requires c κs = search needs

@@ -3,12 +3,12 @@ use mathlib.Core.Path.{sym, ap, _∙_}
 use mathlib.Core.Bool.{cond}
 use lib.Dec.{leb}
 use borrow.Author.Tests.{lt-leb, le-leb}
-use Rattle.desk.specs.declared.CallCause.the-variants.{Place}
-use Rattle.desk.specs.declared.CallVerdict.the-variants.{Accepted, Refused}
-use Rattle.desk.specs.Outcomes.{placed}
+use Rattle.refusals.specs.declared.CallCause.the-variants.{Place}
+use Rattle.refusals.specs.declared.CallVerdict.the-variants.{Accepted, Refused}
+use Rattle.refusals.specs.Refusals.{placed}
 use borrow.Author.Needs.{needs}
-use Rattle.desk.proofs.place_verdict.Statement.{statement}
-use Rattle.desk.proofs.place_verdict.Tie as tie
+use Rattle.refusals.proofs.place_verdict.Statement.{statement}
+use Rattle.refusals.proofs.place_verdict.Tie as tie
 
 sizes-of-requires : tie.Need-sizes-of-requires
 sizes-of-requires c κs = search needs

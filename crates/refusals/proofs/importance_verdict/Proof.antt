@@ -1,11 +1,11 @@
 use mathlib.Core.Path.{sym, ap, _∙_}
-use Rattle.desk.specs.declared.CallVerdict.{CallVerdict}
+use Rattle.refusals.specs.declared.CallVerdict.{CallVerdict}
 use native.Mathlib.Omega.{arith}
-use Rattle.desk.specs.Outcomes.{also, placed}
-use Rattle.desk.proofs.Answers.{figure-means}
+use Rattle.refusals.specs.Refusals.{also, placed}
+use Rattle.refusals.proofs.Calls.{figure-means}
 use borrow.Author.Needs.{needs}
-use Rattle.desk.proofs.importance_verdict.Statement.{statement}
-use Rattle.desk.proofs.importance_verdict.Tie as tie
+use Rattle.refusals.proofs.importance_verdict.Statement.{statement}
+use Rattle.refusals.proofs.importance_verdict.Tie as tie
 
 figure-verdict-requires : tie.Need-figure-verdict-requires
 figure-verdict-requires c κs = search needs

@@ -1,8 +1,8 @@
--- Verdicts of a call: what is accepted, and the outcome by its verdict.
+-- Verdicts of a call: the numbers returned, and what is accepted.
 use Prim.Native.Nat.{ℕ, _+_, _≤_, _<_}
 use mathlib.Core.Path.{_≡_, refl}
 use mathlib.Core.List.{List}
-use mathlib.Core.Logic.{_↔_}
+use mathlib.Core.Logic.{_↔_, Iff·trans}
 use mathlib.Core.Bool.{Bool, true, false, cond}
 use native.Mathlib.Omega.{arith}
 use lib.Dec.{leb, ltb}
@@ -10,13 +10,13 @@ use borrow.Author.Tests.{le-ltb, lt-leb, ltb-false, leb-false}
 use Rattle.plan.specs.declared.Cause.{Cause}
 use Rattle.plan.specs.declared.Verdict.{Verdict}
 use Rattle.plan.specs.declared.Verdict.the-variants.{Accepted as PlanAccepted, Refused as PlanRefused}
-use Rattle.plan.specs.Plans.{sizeM, returned}
-use Rattle.plan.proofs.Verdicts.{number-range}
-use Rattle.desk.specs.declared.CallCause.{CallCause}
-use Rattle.desk.specs.declared.CallCause.the-variants.{Limit, Buffer, Place, Plan, SecondPlan}
-use Rattle.desk.specs.declared.CallVerdict.{CallVerdict}
-use Rattle.desk.specs.declared.CallVerdict.the-variants.{Accepted, Refused}
-use Rattle.desk.specs.Outcomes.{callNumber, callReturned, asked, planned, plannedSecond, placed, also, unless}
+use Rattle.plan.specs.Plans.{WellFormed, sizeM, verdict, returned}
+use Rattle.plan.proofs.Verdicts.{number-range, accepted-means}
+use Rattle.refusals.specs.declared.CallCause.{CallCause}
+use Rattle.refusals.specs.declared.CallCause.the-variants.{Limit, Buffer, Place, Plan, SecondPlan}
+use Rattle.refusals.specs.declared.CallVerdict.{CallVerdict}
+use Rattle.refusals.specs.declared.CallVerdict.the-variants.{Accepted, Refused}
+use Rattle.refusals.specs.Refusals.{callNumber, callReturned, asked, planned, plannedSecond, placed, also, figureVerdict}
 
 -- ---- the numbers returned
 
@@ -75,12 +75,10 @@ pub also-means : (u v : CallVerdict) → also u v ≡ Accepted ↔ (u ≡ Accept
 also-means Accepted v = (λ e. (refl, e), λ h. h .1)
 also-means (Refused c) v = (λ e. let z : _≡_ {A = ℕ} 0 1 = cc in absurd (omega arith), λ h. h .0)
 
--- ---- the outcome by the verdict
-
-module _ (v : CallVerdict) (b answer : List ℕ) where
-  -- a refused call returns the verdict's number and leaves the buffer
-  pub refused : (c : CallCause) → v ≡ Refused c → (callReturned v ≡ unless v b answer .returned) × (b ≡ unless v b answer .buffer)
-  refused c e = rw e (refl, refl)
-
-  pub answers : v ≡ Accepted → (0 ≡ unless v b answer .returned) × (answer ≡ unless v b answer .buffer)
-  answers e = rw e (refl, refl)
+-- the causes of a figure: the limit, the buffer, the plan
+pub figure-means : (plan : List ℕ) (limit room : ℕ) → figureVerdict plan limit room ≡ Accepted ↔ (limit ≤ 1000000) × (16 ≤ room) × WellFormed plan
+figure-means plan limit room =
+    let a = asked-means limit room in
+    let p = Iff·trans (planned-means (verdict plan)) (accepted-means plan) in
+    let e = also-means (asked limit room) (planned (verdict plan)) in
+    (λ h. (a .0 (e .0 h .0) .0, a .0 (e .0 h .0) .1, p .0 (e .0 h .1)), λ h. e .1 (a .1 (h .0, h .1), p .1 (h .2)))

@@ -1,7 +1,7 @@
 use borrow.Author.Tests.{le-ltb, lt-ltb}
-use Rattle.desk.specs.Outcomes.{asked}
-use Rattle.desk.proofs.asked_verdict.Statement.{statement}
-use Rattle.desk.proofs.asked_verdict.Tie as tie
+use Rattle.refusals.specs.Refusals.{asked}
+use Rattle.refusals.proofs.asked_verdict.Statement.{statement}
+use Rattle.refusals.proofs.asked_verdict.Tie as tie
 
 returns : tie.Need-returns
 unfolding asked
