@@ -8,12 +8,12 @@ use Rattle.reliability.specs.Networks.{Proper}
 use borrow.Author.Needs.{needs}
 use Rattle.search.specs.Searches.{from}
 use Rattle.network.specs.Places.{nodesOf, linksOf, Built, Invariant}
 use Rattle.plan.specs.Plans.{sizeN, sizeM, linkIn, linksIn, WellFormed}
 use Rattle.plan.proofs.Verdicts.{accepted-means}
 use Rattle.plan.proofs.Links.{links-more}
 use Rattle.plan.proofs.Accepted.{plan-valid}
-use Rattle.plan.proofs.network_of.Statement.{statement}
-use Rattle.plan.proofs.network_of.Tie as tie
+use Rattle.loading.proofs.network_of.Statement.{statement}
+use Rattle.loading.proofs.network_of.Tie as tie
 
 abbrev Inv-loop : tie.InvT-loop
 Inv-loop plan m net₀ i₀ net i =
