@@ -86,13 +86,13 @@ module _ (plan : List ℕ) (limit : ℕ) (b : List ℕ) where
     -- demand 3: its low and its high equal those that the written rule gives under that limit
     pub figure-numbers : Holds after f
     figure-numbers =
-        read-back f b figure-full-or-refused zero (omega (arith, range, figure-accepted .0 zero .0, rule.steps-taken g valid limit))
+        read-back f b figure-full-or-refused zero (omega (arith, range, figure-accepted .0 zero .0, rule.steps-taken g limit))
 
     -- demand 2: low × S^m ≤ S × N ≤ high × S^m, also when steps run out
     pub figure-encloses : (lowIn after * S ^ m ≤ S * N) × (S * N ≤ highIn after * S ^ m)
     figure-encloses =
         rw (figure-numbers .low, figure-numbers .high)
-        (subst (λ (k : ℕ). (f .low * S ^ k ≤ S * N) × (S * N ≤ f .high * S ^ k)) (plan-links plan) (rule.enclosure-of-equal g valid limit (plan-equal plan)))
+        (subst (λ (k : ℕ). (f .low * S ^ k ≤ S * N) × (S * N ≤ f .high * S ^ k)) (plan-links plan) (rule.enclosure-of-lows g valid limit))
 
     -- from 0 to S, low no higher than high
     pub figure-range : (lowIn after ≤ highIn after) × (highIn after ≤ S)
@@ -100,11 +100,11 @@ module _ (plan : List ℕ) (limit : ℕ) (b : List ℕ) where
 
     -- demand 3: its step count equals the smaller of the splits needed and the limit
     pub figure-steps : stepsIn after ≡ min (needed g) limit
-    figure-steps = figure-numbers .steps ∙ rule.steps-taken g valid limit
+    figure-steps = figure-numbers .steps ∙ rule.steps-taken g limit
 
     -- demand 3: marked unfinished exactly when the plan needs more splits, by the written rule, than its limit
     pub figure-marked : Marked (finishedIn after) (needed g) limit
-    figure-marked = marked (needed g) limit (figure-numbers .finished ∙ ap (λ t. cond t 1 0) (rule.finished-when g valid limit))
+    figure-marked = marked (needed g) limit (figure-numbers .finished ∙ ap (λ t. cond t 1 0) (rule.finished-when g limit))
 
     -- demand 3: a finished pair is at most 2m + 4n wide, however many splits it took
     pub figure-width : finishedIn after ≡ 1 → highIn after ≤ lowIn after + (2 * m + 4 * n)

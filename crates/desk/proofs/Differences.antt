@@ -118,7 +118,7 @@ module _ (first second : List ℕ) (limit : ℕ) (b : List ℕ) where
     difference-encloses =
         rw (difference-numbers .low, difference-numbers .high)
         (subst (λ (k : ℕ). ((d .low *ℤ pos (S ^ k)) ≤ℤ (pos S *ℤ exactDifference g h)) × ((pos S *ℤ exactDifference g h) ≤ℤ (d .high *ℤ pos (S ^ k))))
-        (ap₂ _+_ (plan-links first) (plan-links second)) (rule.difference-enclosure-of-equal g h gv hv limit (plan-equal first) (plan-equal second)))
+        (ap₂ _+_ (plan-links first) (plan-links second)) (rule.difference-enclosure-of-lows g h gv hv limit))
 
     -- from −S to S, low no higher than high
     pub difference-range : (negℤ (pos S) ≤ℤ low) × (low ≤ℤ high) × (high ≤ℤ pos S)

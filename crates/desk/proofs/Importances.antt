@@ -99,7 +99,7 @@ module _ (plan : List ℕ) (place limit : ℕ) (b : List ℕ) where
     importance-encloses =
         rw (importance-numbers .low, importance-numbers .high)
         (subst (λ (k : ℕ). (f .low * S ^ (k - 1) ≤ S * exactly) × (S * exactly ≤ f .high * S ^ (k - 1))) (plan-links plan)
-        (rule.importance-enclosure-of-equal g valid place present limit (plan-equal plan)))
+        (rule.importance-enclosure-of-lows g valid place present limit))
 
     -- from 0 to S, low no higher than high
     pub importance-range : (lowIn after ≤ highIn after) × (highIn after ≤ S)

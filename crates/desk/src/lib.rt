@@ -43,7 +43,7 @@ pub extern "C" fn figure(plan: &[u8], limit: u64, answer: &mut [u8]) -> u64
     if let CallVerdict::Refused(_) = v {
         return refusals::call_returned(v);
     }
-    let f = factoring::work(plan::network_of(plan), limit);
+    let f = factoring::work(loading::network_of(plan), limit);
     put_answer(answer, f.low, f.high, f.steps, f.finished);
     0
 }
@@ -57,7 +57,7 @@ pub extern "C" fn importance(plan: &[u8], place: u64, limit: u64, answer: &mut [
     if let CallVerdict::Refused(_) = w {
         return refusals::call_returned(w);
     }
-    let gain = factoring::importance(plan::network_of(plan), place as usize, limit);
+    let gain = factoring::importance(loading::network_of(plan), place as usize, limit);
     put_answer(answer, gain.low, gain.high, gain.steps, gain.finished);
     0
 }
@@ -75,7 +75,11 @@ pub extern "C" fn difference(first: &[u8], second: &[u8], limit: u64, answer: &m
     if let CallVerdict::Refused(_) = b {
         return refusals::call_returned(b);
     }
-    let d = factoring::difference(plan::network_of(first), plan::network_of(second), limit);
+    let d = factoring::difference(
+        loading::network_of(first),
+        loading::network_of(second),
+        limit,
+    );
     put_answer(answer, bits_of(d.low), bits_of(d.high), d.steps, d.finished);
     0
 }

@@ -42,7 +42,7 @@ fn put_link(text: &mut [u8], at: usize, plan: &[u8], i: usize) -> usize
     ensures { λ r. ⌜ Puts (now (text .entry)) at (lineOf (now (plan .entry)) i) (now (text .exit)) r ⌝ }
 {
     let e = plan::link_at(plan, i);
-    let f = factoring::importance(plan::network_of(plan), i, LIMIT);
+    let f = factoring::importance(loading::network_of(plan), i, LIMIT);
     lines::put_line(
         text,
         at,
@@ -70,7 +70,7 @@ fn put_plan(text: &mut [u8], plan: &[u8]) -> usize
     ensures { λ r. ⌜ Puts (now (text .entry)) 0 (listingBy Verdict.Accepted (now (plan .entry))) (now (text .exit)) r ⌝ }
 {
     let s = reader::sizes_of(plan);
-    let f = factoring::work(plan::network_of(plan), LIMIT);
+    let f = factoring::work(loading::network_of(plan), LIMIT);
     let first = put_sizes(text, s.n, s.m);
     let second = put_figure(text, first, f);
     put_links(text, second, plan)

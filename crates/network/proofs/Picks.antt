@@ -14,7 +14,7 @@ use Rattle.bits.proofs.Digits.{length-digits, digits-zero}
 use Rattle.rounding.specs.Rounding.{S}
 use Rattle.rounding.specs.declared.Direction.{Direction}
 use Rattle.reliability.specs.declared.Link.{Link}
-use Rattle.reliability.specs.Networks.{Ascending, Proper, Valid, linkAt, value}
+use Rattle.reliability.specs.Networks.{Proper, Valid, linkAt, value}
 use Rattle.reliability.specs.Rule.{deleteAt, without}
 use Rattle.reliability.proofs.Validity.{proper-at}
 use Rattle.network.specs.declared.Network.{Network}
@@ -188,11 +188,6 @@ module _ (n : Network) (s j : ℕ) (xs : List Link) (u : Used n j) (cleared : me
 
 -- ---- the nodes
 
-mem-from : {v : ℕ} (i k : ℕ) → List·Memᴰ v (from i k) → (i ≤ v) × (v < i + k)
-unfolding from
-mem-from i (suc k) (List·Memᴰ·head e) = (omega arith, omega arith)
-mem-from i (suc k) (List·Memᴰ·tail m) = let h = mem-from (suc i) k m in (omega arith, omega arith)
-
 without-absent : (v : ℕ) (l : List ℕ) → ((u : ℕ) → List·Memᴰ u l → u ≡ v → ⊥) → without v l ≡ l
 unfolding without
 without-absent v [] h = refl
@@ -220,12 +215,6 @@ nodes-cleared r s v e = ap (λ bs. pick bs (from 0 64)) e ∙ pick-without (memb
 below-more : (k m : ℕ) → set (replicate k true ++ replicate (suc m) false) k true ≡ replicate (suc k) true ++ replicate m false
 below-more zero m = refl
 below-more (suc k) m = ap (λ bs. true ∷ bs) (below-more k m)
-
--- the numbers from i on are in ascending order
-pub ascending-from : (i k : ℕ) → Ascending (from i k)
-unfolding from Ascending
-ascending-from i zero = tt
-ascending-from i (suc k) = (λ u m. omega (arith, mem-from (suc i) k m .0), ascending-from (suc i) k)
 
 pub take-from : (i n k : ℕ) → n ≤ k → take n (from i k) ≡ from i n
 unfolding from

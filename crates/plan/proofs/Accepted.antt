@@ -2,20 +2,17 @@
 use Prim.Native.Nat.{ℕ, zero, suc, _+_, _≤_, _<_}
 use mathlib.Core.Path.{_≡_, refl, sym, ap, ap₂, _∙_, subst}
 use mathlib.Core.List.{List, _∷_, List·Memᴰ, List·Memᴰ·head, List·Memᴰ·tail}
-use native.Mathlib.Nat.{le-of-lt, zero-add}
+use native.Mathlib.Nat.{zero-add}
 use native.Mathlib.Omega.{arith}
 use native.Mathlib.Decide.{ℕ-discrete}
 use lib.ListN.{length}
 use Rattle.reliability.specs.declared.Link.{Link}
-use Rattle.reliability.specs.Networks.{Network, Valid, linked, linkAt}
+use Rattle.reliability.specs.Networks.{Valid, linked, linkAt}
 use Rattle.reliability.specs.Exact.{Equal}
-use Rattle.reliability.specs.Comparisons.{importance}
-use Rattle.network.specs.declared.Network.{Network as Slots}
 use Rattle.plan.specs.declared.Verdict.the-variants.{Accepted}
 use Rattle.plan.specs.Plans.{sizeN, sizeM, firstEnd, secondEnd, verdict, linkIn, planOf}
 use Rattle.search.specs.Searches.{from}
-use Rattle.network.specs.Places.{networkOf, indexOf, Built}
-use Rattle.network.proofs.Picks.{ascending-from, built-index}
+use Rattle.search.proofs.Sets.{ascending-from}
 use Rattle.plan.proofs.Links.{length-links, link-in, one-value, links-proper}
 
 pub length-from : (i k : ℕ) → length (from i k) ≡ k
@@ -51,10 +48,3 @@ module _ (b : List ℕ) where
   plan-ends i h =
       let e = rw (zero-add i) at (link-in b (linked 0 0 (λ d. 0)) 0 (sizeM b) i h) in
       (ap (λ (l : Link). l .a) e, ap (λ (l : Link). l .b) e)
-
-  -- a network by value that stands for the plan
-  module _ (n : Slots) (is : networkOf n ≡ planOf b) where
-    -- with its links at their places
-    module _ (built : Built n (sizeM b)) (place : ℕ) (within : place < sizeM b) where
-      pub stands-importance : (limit : ℕ) → importance (networkOf n) (indexOf n place) limit ≡ importance (planOf b) place limit
-      stands-importance limit = ap₂ (λ (h : Network) (k : ℕ). importance h k limit) is (built-index n (sizeM b) built place (le-of-lt within))

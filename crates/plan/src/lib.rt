@@ -1,12 +1,10 @@
-// The plan file: what its values stand for, the causes of refusal, and the network of an accepted plan.
-use network::Network;
+// The plan file: what its values stand for, the causes of refusal, and the links of an accepted plan.
 use reliability::Link;
 ghost use mathlib.Core.Path.{_≡_};
 ghost use Prim.Native.Nat.{_+_, _*_, _<_};
 ghost use lib.ListN.{length};
 ghost use Rattle.reader.specs.Layout.{sizeM};
-ghost use Rattle.plan.specs.Plans.{rated, unitsOf, linkVerdict, linksVerdict, verdict, number, namedLink, returned, linkIn, planOf};
-ghost use Rattle.network.specs.Places.{networkOf, Built, Invariant};
+ghost use Rattle.plan.specs.Plans.{rated, unitsOf, linkVerdict, linksVerdict, verdict, number, namedLink, returned, linkIn};
 
 // S.
 const UNITS: u32 = 1_000_000_000;
@@ -163,21 +161,4 @@ pub fn link_at(plan: &[u8], i: usize) -> Link
         low: value,
         high: value,
     }
-}
-
-// The network of an accepted plan, its links at the places 0 to m - 1.
-pub fn network_of(plan: &[u8]) -> Network
-    requires { ⌜ verdict (now plan) ≡ Verdict.Accepted ⌝ }
-    ensures { λ r. ⌜ (networkOf r ≡ planOf (now (plan .entry))) × Built r (sizeM (now (plan .entry))) × Invariant r ⌝ }
-{
-    let s = reader::sizes_of(plan);
-    let m = s.m as usize;
-    let mut net = Network::new(s.n as u32);
-    let mut i = 0;
-    while i < m {
-        let l = link_at(plan, i);
-        net = net.with_link(i, l);
-        i += 1;
-    }
-    net
 }

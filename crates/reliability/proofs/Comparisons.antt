@@ -147,10 +147,10 @@ module _ (g : Network) (valid : Valid g) (i : ℕ) (place : i < length (g .links
         (omega arith, omega arith)
 
     pub importance-steps : importance g i limit .steps ≡ min (needed s) limit + min (needed b) limit
-    importance-steps = ap₂ _+_ (steps-taken s sound-valid limit) (steps-taken b broken-valid limit)
+    importance-steps = ap₂ _+_ (steps-taken s limit) (steps-taken b limit)
 
     pub importance-finished : importance g i limit .finished ≡ leb (needed s) limit && leb (needed b) limit
-    importance-finished = ap₂ _&&_ (finished-when s sound-valid limit) (finished-when b broken-valid limit)
+    importance-finished = ap₂ _&&_ (finished-when s limit) (finished-when b limit)
 
     -- for any exact weights that the links' values enclose, each off by at most its own units
     module _ {cs : List ℕ} {ws : List Weighted} (h : AllEnclosed cs (g .links) ws) where
@@ -197,24 +197,22 @@ module _ (g : Network) (valid : Valid g) (i : ℕ) (place : i < length (g .links
         let y = low-high b broken-valid limit in
         (omega (arith, broken-sound), omega (arith, high-range s sound-valid limit))
 
-    -- where the links' low and high values are equal
-    module _ (equal : Equal g) where
-      abbrev fewer : ℕ
-      fewer = length (g .links) - 1
+    abbrev fewer : ℕ
+    fewer = length (g .links) - 1
 
-      -- demand 2: low × S^(m−1) ≤ S × (sound − broken) ≤ high × S^(m−1)
-      pub importance-enclosure-of-equal : (importance g i limit .low * S ^ fewer ≤ S * exactImportance g i) × (S * exactImportance g i ≤ importance g i limit .high * S ^ fewer)
-      importance-enclosure-of-equal =
-          let all : total (deleteAt i (map (weighted Down) (g .links))) ≡ S ^ fewer = ap total (sym (map-delete (weighted Down) i (g .links))) ∙ low-total b broken-valid ∙ ap (λ n. S ^ n) broken-links in
-          rw (← all, ← sound-exact Down, ← broken-exact Down) (importance-enclosure (low-weights g valid))
+    -- demand 2, at the low values, which a plan's values are: low × S^(m−1) ≤ S × (sound − broken) ≤ high × S^(m−1)
+    pub importance-enclosure-of-lows : (importance g i limit .low * S ^ fewer ≤ S * exactImportance g i) × (S * exactImportance g i ≤ importance g i limit .high * S ^ fewer)
+    importance-enclosure-of-lows =
+        let all : total (deleteAt i (map (weighted Down) (g .links))) ≡ S ^ fewer = ap total (sym (map-delete (weighted Down) i (g .links))) ∙ low-total b broken-valid ∙ ap (λ n. S ^ n) broken-links in
+        rw (← all, ← sound-exact Down, ← broken-exact Down) (importance-enclosure (low-weights g valid))
 
-      -- m − 1 links; n nodes with it broken, n − 1 with it sound where it is no loop
-      pub importance-width-of-equal : importance g i limit .finished ≡ true
-          → importance g i limit .high ≤ importance g i limit .low + ((2 * fewer + 4 * soundCount g i) + (2 * fewer + 4 * length (g .nodes)))
-      importance-width-of-equal done =
-          let none : altogether (deleteAt i (gaps (g .links))) ≡ 0 =
-          ap altogether (sym (map-delete (λ (e : Link). e .high - e .low) i (g .links))) ∙ no-units (deleteAt i (g .links)) (λ f m. equal f (mem-delete i (g .links) m)) in
-          omega (arith, importance-width (low-weights g valid) done, none, sound-links, broken-links, sound-nodes)
+    -- where the links' low and high values are equal: m − 1 links; n nodes with it broken, n − 1 with it sound where it is no loop
+    pub importance-width-of-equal : Equal g → importance g i limit .finished ≡ true
+        → importance g i limit .high ≤ importance g i limit .low + ((2 * fewer + 4 * soundCount g i) + (2 * fewer + 4 * length (g .nodes)))
+    importance-width-of-equal equal done =
+        let none : altogether (deleteAt i (gaps (g .links))) ≡ 0 =
+        ap altogether (sym (map-delete (λ (e : Link). e .high - e .low) i (g .links))) ∙ no-units (deleteAt i (g .links)) (λ f m. equal f (mem-delete i (g .links) m)) in
+        omega (arith, importance-width (low-weights g valid) done, none, sound-links, broken-links, sound-nodes)
 
 -- ---- difference
 
@@ -258,10 +256,10 @@ module _ (g h : Network) (gv : Valid g) (hv : Valid h) (limit : ℕ) where
       (minus-order (f .low) (k .high) (f′ .low) (k′ .high) (omega arith), minus-order (f′ .high) (k′ .low) (f .high) (k .low) (omega arith))
 
   pub difference-steps : difference g h limit .steps ≡ min (needed g) limit + min (needed h) limit
-  difference-steps = ap₂ _+_ (steps-taken g gv limit) (steps-taken h hv limit)
+  difference-steps = ap₂ _+_ (steps-taken g limit) (steps-taken h limit)
 
   pub difference-finished : difference g h limit .finished ≡ leb (needed g) limit && leb (needed h) limit
-  difference-finished = ap₂ _&&_ (finished-when g gv limit) (finished-when h hv limit)
+  difference-finished = ap₂ _&&_ (finished-when g limit) (finished-when h limit)
 
   -- from −S to S, low no higher than high
   pub difference-range : (negℤ (pos S) ≤ℤ difference g h limit .low) × (difference g h limit .low ≤ℤ difference g h limit .high) × (difference g h limit .high ≤ℤ pos S)
@@ -307,18 +305,17 @@ module _ (g h : Network) (gv : Valid g) (hv : Valid h) (limit : ℕ) where
         let w = (2 * mg + 4 * length (g .nodes) + 2 * altogether cs) + (2 * mh + 4 * length (h .nodes) + 2 * altogether bs) in
         subst (λ (z : ℤ). difference g h limit .high ≤ℤ z) (sym (minus-add (f .low) (k .high) w)) (minus-order (f .high) (k .low) (f .low + w) (k .high) (omega arith))
 
-  -- where the links' low and high values are equal
-  module _ (ge : Equal g) (he : Equal h) where
-    -- demand 2: low × S^(m+m′) ≤ S × difference ≤ high × S^(m+m′)
-    pub difference-enclosure-of-equal :
-        ((difference g h limit .low *ℤ pos (S ^ (mg + mh))) ≤ℤ (pos S *ℤ exactDifference g h))
-        × ((pos S *ℤ exactDifference g h) ≤ℤ (difference g h limit .high *ℤ pos (S ^ (mg + mh))))
-    unfolding exact
-    difference-enclosure-of-equal =
-        rw (pow-add S mg mh, ← low-total g gv, ← low-total h hv) (difference-enclosure (low-weights g gv) (low-weights h hv))
+  -- demand 2, at the low values, which plans' values are: low × S^(m+m′) ≤ S × difference ≤ high × S^(m+m′)
+  pub difference-enclosure-of-lows :
+      ((difference g h limit .low *ℤ pos (S ^ (mg + mh))) ≤ℤ (pos S *ℤ exactDifference g h))
+      × ((pos S *ℤ exactDifference g h) ≤ℤ (difference g h limit .high *ℤ pos (S ^ (mg + mh))))
+  unfolding exact
+  difference-enclosure-of-lows =
+      rw (pow-add S mg mh, ← low-total g gv, ← low-total h hv) (difference-enclosure (low-weights g gv) (low-weights h hv))
 
-    pub difference-width-of-equal : difference g h limit .finished ≡ true
-        → difference g h limit .high ≤ℤ (difference g h limit .low +ℤ pos ((2 * mg + 4 * length (g .nodes)) + (2 * mh + 4 * length (h .nodes))))
-    difference-width-of-equal done =
-        let w = rw (no-units (g .links) ge, no-units (h .links) he) at (difference-width (low-weights g gv) (low-weights h hv) done) in
-        subst (λ (n : ℕ). difference g h limit .high ≤ℤ (difference g h limit .low +ℤ pos n)) (omega arith) w
+  -- where the links' low and high values are equal
+  pub difference-width-of-equal : Equal g → Equal h → difference g h limit .finished ≡ true
+      → difference g h limit .high ≤ℤ (difference g h limit .low +ℤ pos ((2 * mg + 4 * length (g .nodes)) + (2 * mh + 4 * length (h .nodes))))
+  difference-width-of-equal ge he done =
+      let w = rw (no-units (g .links) ge, no-units (h .links) he) at (difference-width (low-weights g gv) (low-weights h hv) done) in
+      subst (λ (n : ℕ). difference g h limit .high ≤ℤ (difference g h limit .low +ℤ pos n)) (omega arith) w

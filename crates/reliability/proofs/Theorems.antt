@@ -28,7 +28,7 @@ low-weights g valid = low-enclosed (g .links) (valued valid)
 pub low-total : (g : Network) → Valid g → total (map (weighted Down) (g .links)) ≡ S ^ length (g .links)
 low-total g valid = total-is Down (g .links) (valued valid .range Down)
 
-module _ (g : Network) (valid : Valid g) (limit : ℕ) where
+module _ (g : Network) (limit : ℕ) where
   -- demand 3: the splits taken are those needed, as far as the limit goes
   pub steps-taken : figure g limit .steps ≡ min (needed g) limit
   steps-taken = steps (tree g) limit
@@ -37,6 +37,7 @@ module _ (g : Network) (valid : Valid g) (limit : ℕ) where
   pub finished-when : figure g limit .finished ≡ leb (needed g) limit
   finished-when = finished (tree g) limit
 
+module _ (g : Network) (valid : Valid g) (limit : ℕ) where
   -- demand 3: with a larger limit the pair lies within the smaller limit's
   pub nesting : (larger : ℕ) → limit ≤ larger → (figure g limit .low ≤ figure g larger .low) × (figure g larger .high ≤ figure g limit .high)
   nesting = rule.nesting Valid view stepAt lawful chosen first-link g valid limit
@@ -60,13 +61,11 @@ module _ (g : Network) (valid : Valid g) (limit : ℕ) where
     pub width : figure g limit .finished ≡ true → figure g limit .high ≤ figure g limit .low + (2 * length (g .links) + 4 * length (g .nodes) + 2 * altogether cs)
     width = rule.width Valid view stepAt lawful chosen first-link g valid limit h
 
-  -- where the links' low and high values are equal
-  module _ (equal : Equal g) where
-    -- demand 2: low × S^m ≤ S × N ≤ high × S^m
-    pub enclosure-of-equal : (figure g limit .low * S ^ length (g .links) ≤ S * exact Down g) × (S * exact Down g ≤ figure g limit .high * S ^ length (g .links))
-    unfolding exact
-    enclosure-of-equal = rw (← low-total g valid) (enclosure (low-weights g valid))
+  -- demand 2, at the low values, which a plan's values are: low × S^m ≤ S × N ≤ high × S^m
+  pub enclosure-of-lows : (figure g limit .low * S ^ length (g .links) ≤ S * exact Down g) × (S * exact Down g ≤ figure g limit .high * S ^ length (g .links))
+  unfolding exact
+  enclosure-of-lows = rw (← low-total g valid) (enclosure (low-weights g valid))
 
-    -- demand 3: a finished pair is at most 2m + 4n wide
-    pub width-of-equal : figure g limit .finished ≡ true → figure g limit .high ≤ figure g limit .low + (2 * length (g .links) + 4 * length (g .nodes))
-    width-of-equal done = omega (arith, width (low-weights g valid) done, no-units (g .links) equal)
+  -- demand 3: where the links' low and high values are equal, a finished pair is at most 2m + 4n wide
+  pub width-of-equal : Equal g → figure g limit .finished ≡ true → figure g limit .high ≤ figure g limit .low + (2 * length (g .links) + 4 * length (g .nodes))
+  width-of-equal equal done = omega (arith, width (low-weights g valid) done, no-units (g .links) equal)

@@ -11,6 +11,7 @@ use lib.Seq.{getD-set-same, getD-set-other, ext-getD}
 use Rattle.bits.specs.Members.{digits, members}
 use Rattle.bits.proofs.Places.{getD-zipWith}
 use Rattle.bits.proofs.Digits.{length-digits, digits-injective}
+use Rattle.reliability.specs.Networks.{Ascending}
 use Rattle.reliability.proofs.Lists.{by-eqb}
 use Rattle.search.specs.Searches.{pick, from, nodesIn, marked, touching, Incidence}
 
@@ -103,6 +104,17 @@ from-mem (b ∷ bs) i zero m = absurd (List·Memᴰ·not-nil m)
 from-mem (true ∷ bs) i (suc k) (List·Memᴰ·head e) = (0, refl, omega arith)
 from-mem (true ∷ bs) i (suc k) (List·Memᴰ·tail m) = let r = from-mem bs (suc i) k m in (suc (r .0), r .1, omega (arith, r .2))
 from-mem (false ∷ bs) i (suc k) m = let r = from-mem bs (suc i) k m in (suc (r .0), r .1, omega (arith, r .2))
+
+from-least : {v : ℕ} (i k : ℕ) → List·Memᴰ v (from i k) → i ≤ v
+unfolding from
+from-least i (suc k) (List·Memᴰ·head e) = omega arith
+from-least i (suc k) (List·Memᴰ·tail m) = omega (arith, from-least (suc i) k m)
+
+-- the numbers from i on are in ascending order
+pub ascending-from : (i k : ℕ) → Ascending (from i k)
+unfolding from Ascending
+ascending-from i zero = tt
+ascending-from i (suc k) = (λ u m. omega (arith, from-least (suc i) k m), ascending-from (suc i) k)
 
 -- the nodes of a set are its members
 pub has-mem : (s u : ℕ) → has s u ≡ true → u < 64 → List·Memᴰ u (nodesIn s)

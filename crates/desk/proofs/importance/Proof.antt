@@ -7,7 +7,7 @@ use Rattle.reliability.specs.Comparisons.{importance}
 use Rattle.plan.specs.declared.Verdict.the-variants.{Accepted as PlanAccepted}
 use Rattle.plan.specs.Plans.{sizeM, verdict, planOf}
 use Rattle.network.proofs.Picks.{built-used}
-use Rattle.plan.proofs.Accepted.{stands-importance}
+use Rattle.loading.proofs.Stands.{stands-importance}
 use Rattle.refusals.specs.declared.CallVerdict.the-variants.{Accepted}
 use Rattle.refusals.specs.Refusals.{callReturned, asked, planned, placed, figureVerdict, importanceVerdict}
 use Rattle.refusals.proofs.Calls.{asked-means, planned-means, placed-means, also-means}

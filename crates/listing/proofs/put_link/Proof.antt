@@ -8,7 +8,7 @@ use Rattle.reliability.specs.declared.Figure.{Figure}
 use Rattle.reliability.specs.Comparisons.{importance}
 use Rattle.plan.proofs.Verdicts.{accepted-means}
 use Rattle.reader.specs.Layout.{sizeM}
-use Rattle.plan.proofs.Accepted.{stands-importance}
+use Rattle.loading.proofs.Stands.{stands-importance}
 use Rattle.network.proofs.Picks.{built-used}
 use Rattle.listing.specs.Listings.{limit, linkLine, lineOf}
 use Rattle.lines.specs.Lines.{Puts}
@@ -20,7 +20,7 @@ use Rattle.listing.proofs.put_link.Lts as lts
 use Rattle.factoring.proofs.importance.Reads as importance-reads
 use Rattle.lines.proofs.put_line.Reads as put-line-reads
 use Rattle.plan.proofs.link_at.Reads as link-at-reads
-use Rattle.plan.proofs.network_of.Reads as network-of-reads
+use Rattle.loading.proofs.network_of.Reads as network-of-reads
 
 link-at-requires : tie.Need-link-at-requires
 link-at-requires c κs = search needs

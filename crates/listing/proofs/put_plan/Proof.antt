@@ -21,7 +21,7 @@ use Rattle.factoring.proofs.work.Reads as work-reads
 use Rattle.listing.proofs.put_figure.Reads as put-figure-reads
 use Rattle.listing.proofs.put_links.Reads as put-links-reads
 use Rattle.listing.proofs.put_sizes.Reads as put-sizes-reads
-use Rattle.plan.proofs.network_of.Reads as network-of-reads
+use Rattle.loading.proofs.network_of.Reads as network-of-reads
 use Rattle.reader.proofs.sizes_of.Reads as sizes-of-reads
 
 -- what remains of the listing of a plan

@@ -5,8 +5,9 @@ use Rattle.bits.proofs.Digits.{digits-zero}
 use Rattle.bits.proofs.Operations.{full-fits}
 use Rattle.reliability.proofs.Validity.{empty-valid}
 use Rattle.search.specs.Searches.{pick, from}
+use Rattle.search.proofs.Sets.{ascending-from}
 use Rattle.network.specs.Places.{Built}
-use Rattle.network.proofs.Picks.{pick-first, pick-none, take-from, ascending-from}
+use Rattle.network.proofs.Picks.{pick-first, pick-none, take-from}
 use Rattle.network.proofs.Kept.{stands}
 use borrow.Author.Needs.{needs}
 use Rattle.network.proofs.Network.new.Statement.{statement}

@@ -8,12 +8,13 @@ use Rattle.reliability.specs.Networks.{Proper}
 use borrow.Author.Needs.{needs}
 use Rattle.search.specs.Searches.{from}
 use Rattle.network.specs.Places.{nodesOf, linksOf, Built, Invariant}
-use Rattle.plan.specs.Plans.{sizeN, sizeM, linkIn, linksIn, WellFormed}
+use Rattle.plan.specs.declared.Verdict.the-variants.{Accepted}
+use Rattle.plan.specs.Plans.{sizeN, sizeM, verdict, linkIn, linksIn, WellFormed}
 use Rattle.plan.proofs.Verdicts.{accepted-means}
 use Rattle.plan.proofs.Links.{links-more}
 use Rattle.plan.proofs.Accepted.{plan-valid}
-use Rattle.plan.proofs.network_of.Statement.{statement}
-use Rattle.plan.proofs.network_of.Tie as tie
+use Rattle.loading.proofs.network_of.Statement.{statement}
+use Rattle.loading.proofs.network_of.Tie as tie
 
 abbrev Inv-loop : tie.InvT-loop
 Inv-loop plan m net₀ i₀ net i =
@@ -28,6 +29,9 @@ link-mem b i (suc k) j h l = go (ℕ-discrete j i) (link-mem b (suc i) k j)
     go : Dec (j ≡ i) → (suc i ≤ j → j < suc i + k → List·Memᴰ (linkIn b j) (linksIn b (suc i) k)) → List·Memᴰ (linkIn b j) (linkIn b i ∷ linksIn b (suc i) k)
     go (yes e) later = List·Memᴰ·head (ap (linkIn b) e)
     go (no n) later = List·Memᴰ·tail (later (omega arith) (omega arith))
+
+proper-in : (b : List ℕ) (j : ℕ) → verdict b ≡ Accepted → j < sizeM b → Proper (from 0 (sizeN b)) (linkIn b j)
+proper-in b j accepted h = plan-valid b accepted .proper (linkIn b j) (link-mem b 0 (sizeM b) j (omega arith) (omega arith))
 
 abbrev μ-loop : tie.MeasureT-loop
 μ-loop plan m net₀ i₀ net i = m - i
@@ -60,11 +64,9 @@ link-at-requires c κs = let l = c .before .loop .inv in (c .before .before .bef
 with-link-requires : tie.Need-with-link-requires Inv-loop μ-loop
 with-link-requires c κs =
     let l = c .before .before .loop .inv in
-    let w = well (c .before .before .before .before .before .before .before .before) in
-    let b = c .before .before .before .before .before .before .before .before .args .plan .now in
-    let i = c .before .before .loop .i in
-    let proper = plan-valid b (c .before .before .before .before .before .before .before .before .pre) .proper (linkIn b i) (link-mem b 0 (sizeM b) i (omega arith) (omega (arith, l .0))) in
-    (l .3, l .2, omega (arith, l .0, w .links), subst₂ Proper (sym (l .4)) (sym (c .link-at .ensures)) proper)
+    let s = c .before .before .before .before .before .before .before .before in
+    let w = well s in
+    (l .3, l .2, omega (arith, l .0, w .links), subst₂ Proper (sym (l .4)) (sym (c .link-at .ensures)) (proper-in (s .args .plan .now) _ (s .pre) (omega (arith, l .0))))
 
 add-i : tie.Need-add-i Inv-loop μ-loop
 add-i c = search needs

@@ -1,0 +1,24 @@
+// The network by value of an accepted plan.
+use network::Network;
+use plan::Verdict;
+ghost use mathlib.Core.Path.{_≡_};
+ghost use Rattle.reader.specs.Layout.{sizeM};
+ghost use Rattle.plan.specs.Plans.{verdict, planOf};
+ghost use Rattle.network.specs.Places.{networkOf, Built, Invariant};
+
+// The network of an accepted plan, its links at the places 0 to m - 1.
+pub fn network_of(plan: &[u8]) -> Network
+    requires { ⌜ verdict (now plan) ≡ Verdict.Accepted ⌝ }
+    ensures { λ r. ⌜ (networkOf r ≡ planOf (now (plan .entry))) × Built r (sizeM (now (plan .entry))) × Invariant r ⌝ }
+{
+    let s = reader::sizes_of(plan);
+    let m = s.m as usize;
+    let mut net = Network::new(s.n as u32);
+    let mut i = 0;
+    while i < m {
+        let l = plan::link_at(plan, i);
+        net = net.with_link(i, l);
+        i += 1;
+    }
+    net
+}
