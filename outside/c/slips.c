@@ -214,6 +214,13 @@ static uint64_t otherwise(struct call *c, const long *s)
     }
 }
 
+/* Of two evaluations one has come to its end, and they have taken many steps. */
+static int one_ended(const struct call *c)
+{
+    uint64_t steps = word(c->answer + 8);
+    return word(c->answer + 12) == 0 && 150 < steps && steps < 2 * c->limit;
+}
+
 /* And on the way out. */
 static uint64_t afterwards(const struct call *c, const long *s, uint64_t returned)
 {
@@ -247,6 +254,18 @@ static uint64_t afterwards(const struct call *c, const long *s, uint64_t returne
     case 38: /* low and high are exchanged where low is negative */
         put(c->answer, low < 0 ? high : low);
         put(c->answer + 4, low < 0 ? low : high);
+        break;
+    case 43: /* an importance is finished where one evaluation is */
+        put(c->answer + 12, word(c->answer + 12) | (c->which == IMPORTANCE && one_ended(c)));
+        break;
+    case 44: /* a difference is finished where one evaluation is */
+        put(c->answer + 12, word(c->answer + 12) | (c->which == DIFFERENCE && one_ended(c)));
+        break;
+    case 45: /* an importance's high is one less where one evaluation is finished */
+        put(c->answer + 4, high - (c->which == IMPORTANCE && one_ended(c)));
+        break;
+    case 46: /* a difference's high is one less where one evaluation is finished */
+        put(c->answer + 4, high - (c->which == DIFFERENCE && one_ended(c)));
         break;
     case 139: /* the link is not returned */
         return returned % 256;

@@ -113,7 +113,7 @@ fn of_refusals() -> Vec<Slip> {
     slips
 }
 
-const OTHERS: [(i64, &str); 36] = [
+const OTHERS: [(i64, &str); 40] = [
     (2, "a limit of 1000000 is refused"),
     (3, "a limit of 1000001 is accepted"),
     (4, "limits are 32 bits"),
@@ -150,6 +150,10 @@ const OTHERS: [(i64, &str); 36] = [
     (40, "a link above 31 is not returned"),
     (41, "the refusals of plan B are those of plan A"),
     (42, "16 bytes are cleared on a refusal"),
+    (43, "an importance is finished where one evaluation is"),
+    (44, "a difference is finished where one evaluation is"),
+    (45, "an importance's high is one less where one evaluation is finished"),
+    (46, "a difference's high is one less where one evaluation is finished"),
 ];
 
 fn slips() -> Vec<Slip> {

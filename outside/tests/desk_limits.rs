@@ -116,6 +116,30 @@ fn hold_complete(nodes: u8, needed: u64) {
     }
 }
 
+/// A complete graph needs as many splits as the one of a node less and the graph without a link together, and one more: limits at
+/// which one of two evaluations comes to its end and the other lacks a step.
+fn hold_one_ended(nodes: u8, needed: u64, needed_of_less: u64) {
+    let mut random = Random::new(nodes.into());
+    let mut plan = |nodes| with_values(&mut random, Plan::complete(nodes, 0)).bytes();
+    let (larger, smaller) = (&plan(nodes), &plan(nodes - 1));
+    let limit = needed - 1;
+    for (a, b) in [(larger, smaller), (smaller, larger)] {
+        let both = answer(Call::Difference { a, b, limit });
+        assert_eq!((both.steps, both.finished), (limit + needed_of_less, false));
+    }
+    let (plan, place, limit) = (larger, 0, needed - needed_of_less - 2);
+    let branches = answer(Call::Importance { plan, place, limit });
+    let steps = limit + needed_of_less;
+    assert_eq!((branches.steps, branches.finished), (steps, false));
+}
+
+#[test]
+fn one_of_two_evaluations_ends() {
+    for (nodes, needed, less) in [(8, 719, 119), (9, 5_039, 719), (10, 40_319, 5_039)] {
+        hold_one_ended(nodes, needed, less);
+    }
+}
+
 #[test]
 fn complete_graphs_of_few_splits() {
     for (nodes, needed) in [(7, 119), (8, 719), (9, 5_039), (10, 40_319)] {

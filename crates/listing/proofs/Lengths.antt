@@ -1,11 +1,10 @@
 -- The lines of a plan's links one by one, and how long a listing can be.
 use Prim.Native.Nat.{ℕ, zero, suc, _+_, _-_, _*_, _≤_, _<_}
-use mathlib.Core.Path.{_≡_, refl, ap, _∙_, subst}
+use mathlib.Core.Path.{_≡_, ap, _∙_}
 use mathlib.Core.List.{List, [], _∷_, _++_}
-use mathlib.Core.Bool.{Bool, true, false, cond}
 use native.Mathlib.Nat.{zero-add}
 use native.Mathlib.Omega.{arith}
-use lib.ListN.{length, length-append, getD, drop}
+use lib.ListN.{length, length-append, drop}
 use lib.Seq.{length-sets, sets-eq}
 use Rattle.lines.specs.Lines.{Puts, text}
 use Rattle.lines.proofs.Theorems.{width, length-filled}

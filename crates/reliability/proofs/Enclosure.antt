@@ -3,7 +3,7 @@ use Prim.Native.Nat.{ℕ, zero, suc, _+_, _-_, _*_, _^_, _≤_, _<_, max, zero-l
 use mathlib.Core.Path.{_≡_, refl, sym, ap, ap₂, _∙_, subst}
 use mathlib.Core.List.{List, [], _∷_, map, List·Memᴰ, List·Memᴰ·head, List·Memᴰ·tail}
 use mathlib.Core.Bool.{Bool, true, false, _&&_, false≢true, and-eq-true-iff}
-use native.Mathlib.Nat.{zero-mul, add-mul, mul-add, mul-assoc, mul-comm, mul-left-comm, add-assoc, add-comm, add-left-comm, mul-le-mul-left, mul-le-mul-right, le-refl, le-suc, le-trans, le-of-eq, pow-succ'}
+use native.Mathlib.Nat.{zero-mul, add-mul, mul-comm, mul-left-comm, mul-le-mul-left, mul-le-mul-right, le-refl, le-suc, le-trans, le-of-eq, pow-succ'}
 use native.Mathlib.Omega.{arith}
 use lib.Dec.{eqb}
 use borrow.Author.Tests.{eq-eqb}

@@ -4,7 +4,7 @@ use mathlib.Core.Path.{_≡_, refl, sym, ap, ap₂, _∙_, subst}
 use mathlib.Core.List.{List, [], _∷_, map, map-map, List·Memᴰ, List·Memᴰ·head, List·Memᴰ·tail, Memᴰ·of-map}
 use mathlib.Core.Bool.{true, false}
 use mathlib.Core.Logic.{inl}
-use native.Mathlib.Nat.{mul-assoc, mul-comm, mul-add, add-mul, mul-left-comm, add-assoc, add-comm, add-left-comm, zero-mul, mul-zero, add-zero, add-sub-of-le, pow-suc, pow-succ', mul-le-mul-left, mul-le-mul-right, add-le-add, lt-trans, le-trans, le-of-eq}
+use native.Mathlib.Nat.{mul-comm, zero-mul, mul-zero, add-zero, add-sub-of-le, pow-suc, pow-succ', mul-le-mul-left, mul-le-mul-right, add-le-add, lt-trans, le-trans, le-of-eq}
 use native.Mathlib.Omega.{arith}
 use native.Mathlib.Decide.{decLt}
 use lib.ListN.{length, getD, set, List·getD-map, length-map, length-set}
@@ -18,7 +18,7 @@ use Rattle.reliability.specs.declared.Step.{Step}
 use Rattle.reliability.specs.declared.Step.the-variants.{OneNode, Disconnected, Loop, Parallel, End, Series, Split}
 use Rattle.reliability.specs.Networks.{Network, Valid, Ends, ends, value, linked, linkAt, connected}
 use Rattle.reliability.specs.Exact.{Weighted, weighted, sum, total}
-use Rattle.reliability.specs.Rule.{across, joined, renamed, rename, deleteAt, without, leaves}
+use Rattle.reliability.specs.Rule.{across, renamed, rename, deleteAt, without, leaves}
 use Rattle.reliability.proofs.Lawful.{over, Reduces}
 use Rattle.reliability.proofs.Lists.{map-delete, map-set, mem-delete, length-delete}
 use Rattle.reliability.proofs.States.{Joins, Off, AllOff, moved, sum-more, sum-total, one-node, none-connects, loop-law, parallel-law, joined-law, end-law, series-law, contraction, front, Onto, onto-kept}

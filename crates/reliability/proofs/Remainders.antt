@@ -1,7 +1,6 @@
 -- What a step leaves is a valid network with one link less, and its factors and values are at most S.
 use Prim.Native.Nat.{ℕ, suc, _≤_, _<_, zero-le}
 use mathlib.Core.Path.{_≡_, refl, sym, subst}
-use mathlib.Core.List.{List·Memᴰ}
 use mathlib.Core.Logic.{⊎-elim}
 use native.Mathlib.Nat.{le-refl}
 use native.Mathlib.Omega.{arith}

@@ -1,6 +1,6 @@
 -- Differences of two whole numbers: order, multiples and sums.
 use Prim.Native.Nat.{ℕ, zero, suc, _+_, _-_, _*_, _≤_, _<_}
-use mathlib.Core.Path.{_≡_, refl, sym, ap, _∙_, subst, subst₂}
+use mathlib.Core.Path.{_≡_, refl, sym, ap, _∙_, subst₂}
 use mathlib.Core.Bool.{Bool, true, false, cond}
 use native.Mathlib.Nat.{add-zero, sub-zero, mul-le-mul-right, le-of-lt}
 use native.Mathlib.Omega.{arith}

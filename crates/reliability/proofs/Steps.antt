@@ -1,30 +1,24 @@
 -- What is known where a step fits.
-use Prim.Native.Nat.{ℕ, suc, _≤_, _<_, zero-le, suc-le-suc}
-use mathlib.Core.Path.{_≡_, refl, sym, _∙_, subst}
+use Prim.Native.Nat.{ℕ, _≤_, _<_, zero-le, suc-le-suc}
+use mathlib.Core.Path.{_≡_, refl, sym, _∙_}
 use mathlib.Core.List.{List, [], _∷_, map, List·Memᴰ, List·Memᴰ·head}
 use mathlib.Core.Bool.{Bool, true, false, cond, not, _&&_, _||_, true≢false, and-eq-true-iff}
-use mathlib.Core.Logic.{_⊎_, inl, inr, ⊎-map, ⊎-elim}
+use mathlib.Core.Logic.{_⊎_, inl, inr, ⊎-map}
 use mathlib.Core.Option.{Option, some, none, Option·map}
-use native.Mathlib.Nat.{not-suc-le-zero, le-refl}
+use native.Mathlib.Nat.{not-suc-le-zero}
 use native.Mathlib.Omega.{arith}
 use lib.Dec.{eqb, leb}
-use lib.ListN.{length, set, length-set, length-map}
-use lib.Seq.{lt-length-set}
+use lib.ListN.{length}
 use borrow.Author.Tests.{eqb-true, eqb-false, leb-true, leb-false}
-use Rattle.rounding.specs.Rounding.{S}
-use Rattle.rounding.specs.declared.Direction.{Direction}
-use Rattle.rounding.specs.declared.Direction.the-variants.{Down, Up}
-use Rattle.rounding.proofs.Operations.{series-range, series-order, factor-range}
 use Rattle.reliability.specs.declared.Link.{Link}
 use Rattle.reliability.specs.declared.Step.{Step}
 use Rattle.reliability.specs.declared.Step.the-variants.{OneNode, Disconnected, Loop, Parallel, End, Series, Split}
-use Rattle.reliability.specs.Networks.{Network, Ascending, Proper, Valid, ends, value, linked, linkAt, label, every, connected}
-use Rattle.reliability.specs.Rule.{isLoop, touches, alike, firstAt, firstPair, lowest, endOf, seriesOf, when, _otherwise_, nextAt, chosen, next, deleteAt, deleted, removed, joined, across, contracted, leaves, settled}
-use Rattle.reliability.proofs.Lists.{or-true, length-delete, getD-mem}
-use Rattle.reliability.proofs.Lawful.{Leaves, View, Place, Sized}
+use Rattle.reliability.specs.Networks.{Network, Ascending, Valid, ends, linkAt, label, every, connected}
+use Rattle.reliability.specs.Rule.{isLoop, touches, alike, firstAt, firstPair, lowest, endOf, seriesOf, when, _otherwise_, nextAt, chosen, next, deleteAt, across}
+use Rattle.reliability.proofs.Lists.{or-true, getD-mem}
+use Rattle.reliability.proofs.Lawful.{View, Place}
 use Rattle.reliability.proofs.Searches.{Answers, Holds, Fails, first-at, Placed, Pair, first-pair, lowest-of}
 use Rattle.reliability.proofs.States.{Joins, Off}
-use Rattle.reliability.proofs.Validity.{proper-at, across-proper, deleted-valid, joined-valid, removed-valid, contracted-valid, parallel-proper, mem-joined}
 
 -- e joins v to another node
 pub record Leg (v : ℕ) (e : Link) : Type 0 where

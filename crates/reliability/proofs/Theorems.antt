@@ -9,7 +9,6 @@ use lib.ListN.{length}
 use Rattle.rounding.specs.Rounding.{S}
 use Rattle.rounding.specs.declared.Direction.{Direction}
 use Rattle.rounding.specs.declared.Direction.the-variants.{Down, Up}
-use Rattle.reliability.specs.declared.Link.{Link}
 use Rattle.reliability.specs.Networks.{Network, Valid}
 use Rattle.reliability.specs.Exact.{Weighted, weighted, sum, total, exact, AllEnclosed, altogether, Equal}
 use Rattle.reliability.specs.Rule.{chosen, stepAt, tree, figure, needed, budget}

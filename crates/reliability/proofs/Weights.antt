@@ -3,7 +3,7 @@ use Prim.Native.Nat.{ℕ, zero, suc, _+_, _-_, _*_, _^_, _≤_, _<_, zero-le}
 use mathlib.Core.Path.{_≡_, refl, sym, ap, _∙_}
 use mathlib.Core.List.{List, [], _∷_, map, List·Memᴰ, List·Memᴰ·head, List·Memᴰ·tail}
 use mathlib.Core.Bool.{true}
-use native.Mathlib.Nat.{mul-comm, mul-assoc, mul-left-comm, mul-add, add-mul, add-assoc, add-comm, add-left-comm, add-sub-of-le, mul-le-mul-right, le-refl, le-trans, le-of-eq, le-of-mul-le-mul-right, one-le-pow, mul-pos, pow-succ'}
+use native.Mathlib.Nat.{mul-comm, mul-add, add-mul, add-sub-of-le, mul-le-mul-right, le-refl, le-trans, le-of-eq, le-of-mul-le-mul-right, one-le-pow, mul-pos, pow-succ'}
 use native.Mathlib.Omega.{arith}
 use lib.Dec.{lit<}
 use lib.ListN.{length}

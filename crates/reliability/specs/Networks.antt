@@ -1,7 +1,7 @@
 -- Networks, and what it means that links connect nodes.
 use Prim.Native.Nat.{ℕ, min, max, _≤_, _<_}
 use mathlib.Core.List.{List, [], _∷_, List·Memᴰ}
-use mathlib.Core.Bool.{Bool, true, false, cond, _&&_}
+use mathlib.Core.Bool.{Bool, true, cond, _&&_}
 use lib.Dec.{eqb}
 use lib.ListN.{getD}
 use Rattle.rounding.specs.Rounding.{S}

@@ -1,11 +1,11 @@
--- A number written is read back, and writing keeps the length.
+-- Four bytes stored, and a number that is written and read back.
 use Prim.Native.Nat.{ℕ, _+_, _/_, _%_, _^_, _≤_, _<_}
 use mathlib.Core.Path.{_≡_, ap, _∙_}
 use mathlib.Core.List.{List, [], _∷_, _++_, append-assoc}
 use native.Mathlib.Numerals.{add-one, add-two, add-three}
 use native.Mathlib.Nat.{mod-eq-of-lt, div-div-eq-div-mul}
 use native.Mathlib.Omega.{arith}
-use lib.ListN.{length, take, drop, set, length-append, length-drop}
+use lib.ListN.{length, take, drop, set}
 use lib.Seq.{sets-eq, getD-append-add, length-take-le}
 use Rattle.words.specs.Words.{byte, word32, le4, with32}
 
@@ -26,13 +26,9 @@ behind32 p q at e =
     let moved : (k n : ℕ) → k ≡ length p + n → byte (p ++ q) k ≡ byte q n = λ k n h. ap (byte (p ++ q)) h ∙ getD-append-add p q n 0 in
     omega (arith, moved at 0 (omega arith), moved (at + 1) 1 (omega arith), moved (at + 2) 2 (omega arith), moved (at + 2 + 1) 3 (omega arith))
 
-module _ (b : List ℕ) (at x : ℕ) (room : at + 4 ≤ length b) where
-  -- what is written is read back
-  pub read-back32 : x < 2 ^ 32 → word32 (with32 b at x) at ≡ x
-  read-back32 h =
-      ap (λ (l : List ℕ). word32 l at) (append-assoc (take at b) (le4 x) (drop (at + 4) b))
-      ∙ behind32 (take at b) (le4 x ++ drop (at + 4) b) at (length-take-le at b (omega arith))
-      ∙ whole32 x (drop (at + 4) b) h
-
-  pub length-with32 : length (with32 b at x) ≡ length b
-  length-with32 = omega (arith, length-append (take at b ++ le4 x) (drop (at + 4) b), length-append (take at b) (le4 x), length-take-le at b (omega arith), length-drop (at + 4) b)
+-- what is written is read back
+pub read-back32 : (b : List ℕ) (at x : ℕ) → at + 4 ≤ length b → x < 2 ^ 32 → word32 (with32 b at x) at ≡ x
+read-back32 b at x room h =
+    ap (λ (l : List ℕ). word32 l at) (append-assoc (take at b) (le4 x) (drop (at + 4) b))
+    ∙ behind32 (take at b) (le4 x ++ drop (at + 4) b) at (length-take-le at b (omega arith))
+    ∙ whole32 x (drop (at + 4) b) h
