@@ -5,7 +5,7 @@ use reliability::Figure;
 ghost use mathlib.Core.Path.{_≡_};
 ghost use mathlib.Core.List.{List, _++_};
 ghost use Prim.Native.Nat.{ℕ, _+_, _≤_, _<_};
-ghost use lib.ListN.{length, getD, drop};
+ghost use lib.ListN.{length, drop};
 ghost use Rattle.lines.specs.Lines.{Puts};
 ghost use Rattle.plan.specs.Plans.{sizeM, verdict};
 ghost use Rattle.listing.specs.Listings.{sizesLine, figureLine, lineOf, linkLines, refusedLine, listingBy, listing, IsRead, Lists};
