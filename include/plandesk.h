@@ -27,9 +27,9 @@
    0), and that the answer buffer shares no byte with a plan. It allocates nothing and keeps nothing, so it is safe from
    several threads at once; each needs a stack of 512 KiB for it.
 
-   How long a call takes goes by its steps. At the limit of 1,000,000 a figure of the mesh of 32 nodes and 64 links
-   (plans/mesh.plan) took about 1.2 seconds on one core of x86-64, and that of the slowest plan found 1.9; importance and
-   difference, which work two networks, take up to twice as long. A call cannot be stopped; a smaller limit ends it sooner. */
+   How long a call takes goes by its steps. At the limit of 1,000,000 the mesh of 32 nodes and 64 links (plans/mesh.plan)
+   took figure about 1 second on one core of x86-64, and importance and difference, which work two networks, up to 2. The
+   slowest of 400 random plans took about twice as long a step. A call cannot be stopped; a smaller limit ends it sooner. */
 
 #ifndef PLANDESK_H
 #define PLANDESK_H
