@@ -8,12 +8,15 @@ use std::process::{Command, Stdio};
 use std::thread::sleep;
 use std::time::Duration;
 
-/// The limit of the figure and of each evaluation behind an importance.
-const LIMIT: u64 = 20_000;
+/// The limit of the plan's figure.
+const FIGURE_LIMIT: u64 = 100_000;
+
+/// The limit of each of the two evaluations behind an importance.
+const IMPORTANCE_LIMIT: u64 = 20_000;
 
 /// The text for a plan file, each call answered by `asked`.
 pub fn text(plan: &[u8], asked: impl Fn(&Call) -> Outcome) -> String {
-    let limit = LIMIT;
+    let limit = FIGURE_LIMIT;
     let figure = match asked(&Call::Figure { plan, limit }) {
         Err(number) => return format!("refused {} at {}\n", number % 256, number / 256),
         Ok(answer) => answer.unwrap(),
@@ -22,12 +25,13 @@ pub fn text(plan: &[u8], asked: impl Fn(&Call) -> Outcome) -> String {
     let (nodes, links) = (data.nodes, data.links.len());
     let mut text = format!("nodes {nodes} links {links}\n{figure}\n");
     for (i, link) in data.links.iter().enumerate() {
-        let place = i as u64;
+        let (place, limit) = (i as u64, IMPORTANCE_LIMIT);
         let importance = asked(&Call::Importance { plan, place, limit });
         let Answer { low, high, .. } = importance.unwrap().unwrap();
         let ([a, b], units) = (link.ends, link.units());
         text.push_str(&format!("link {i} {a} {b} {units} {low} {high}\n"));
     }
+    text.push_str(&format!("limits {FIGURE_LIMIT} {IMPORTANCE_LIMIT}\n"));
     text
 }
 

@@ -26,6 +26,7 @@ nodes 2 links 2
 low 980000000 high 980000000 steps 0 finished 1
 link 0 0 1 900000000 200000000 200000000
 link 1 0 1 800000000 100000000 100000000
+limits 100000 20000
 ";
     assert_eq!(hold(&plan("example")), expected);
 }
@@ -63,14 +64,17 @@ fn the_sample_plans() {
 #[test]
 fn the_mesh() {
     let text = hold(&plan("mesh"));
-    assert_eq!(text.lines().count(), 2 + 64);
-    assert_eq!(steps(&text), 20_000);
+    assert_eq!(text.lines().count(), 2 + 64 + 1);
+    assert_eq!(steps(&text), 100_000);
 }
 
-/// With each link broken it takes all 20,000 steps, and a step more or less shows in the importance.
+/// The figure needs 8! - 1 steps and is finished. With each link broken it takes all 20,000 steps, and a step more or less shows
+/// in the importance.
 #[test]
 fn ten_nodes_each_two_joined() {
-    hold(&Plan::complete(10, S / 2).bytes());
+    let text = hold(&Plan::complete(10, S / 2).bytes());
+    assert_eq!(steps(&text), 40_319);
+    assert!(text.lines().nth(1).unwrap().ends_with(" finished 1"));
 }
 
 #[test]

@@ -17,7 +17,7 @@ use Rattle.plan.specs.declared.Verdict.{Verdict}
 use Rattle.plan.specs.declared.Verdict.the-variants.{Accepted, Refused}
 use Rattle.plan.specs.Plans.{sizeN, sizeM, verdict, linkIn, planOf}
 use Rattle.plan.proofs.Verdicts.{accepted-means}
-use Rattle.listing.specs.Listings.{limit, sizesLine, figureLine, linkLine, lineOf, linkLines, refusedLine, listingBy, listing}
+use Rattle.listing.specs.Listings.{figureLimit, importanceLimit, sizesLine, figureLine, linkLine, lineOf, linkLines, limitsLine, refusedLine, listingBy, listing}
 
 -- ---- link by link
 
@@ -49,6 +49,10 @@ length-link : (i : ℕ) (e : Link) (f : Figure) → length (linkLine i e f) ≤ 
 unfolding width
 length-link i e f = length-filled _ (text "link 0 1 2 3 4 5\n")
 
+length-limits : length limitsLine ≤ 29
+unfolding width
+length-limits = length-filled _ (text "limits 0 1\n")
+
 length-refused : (c : Cause) → length (refusedLine c) ≤ 33
 unfolding width
 length-refused c = length-filled _ (text "refused 0 at 1\n")
@@ -57,7 +61,7 @@ length-links : (plan : List ℕ) (i k : ℕ) → length (linkLines plan i k) ≤
 unfolding linkLines
 length-links plan i zero = omega arith
 length-links plan i (suc k) =
-    omega (arith, length-append (lineOf plan i) (linkLines plan (suc i) k), length-link i (linkIn plan i) (importance (planOf plan) i limit), length-links plan (suc i) k)
+    omega (arith, length-append (lineOf plan i) (linkLines plan (suc i) k), length-link i (linkIn plan i) (importance (planOf plan) i importanceLimit), length-links plan (suc i) k)
 
 -- ---- the whole listing
 
@@ -66,10 +70,10 @@ module _ (plan : List ℕ) where
   pub length-listing : (v : Verdict) → verdict plan ≡ v → length (listingBy v plan) ≤ 8192
   length-listing Accepted e =
       let w = accepted-means plan .0 e in
-      let f = figure (planOf plan) limit in
+      let f = figure (planOf plan) figureLimit in
       let s = sizesLine (sizeN plan) (sizeM plan) in
       let l = linkLines plan 0 (sizeM plan) in
-      omega (arith, length-append (s ++ figureLine f) l, length-append s (figureLine f), length-sizes (sizeN plan) (sizeM plan), length-figure f, length-links plan 0 (sizeM plan), w .links)
+      omega (arith, length-append (s ++ figureLine f ++ l) limitsLine, length-append (s ++ figureLine f) l, length-append s (figureLine f), length-sizes (sizeN plan) (sizeM plan), length-figure f, length-links plan 0 (sizeM plan), length-limits, w .links)
   length-listing (Refused c) e = omega (arith, length-refused c)
 
   listing-is : (v : Verdict) → verdict plan ≡ v → listing plan ≡ listingBy v plan

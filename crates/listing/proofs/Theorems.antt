@@ -2,18 +2,24 @@
 use Prim.Native.Nat.{ℕ, _+_, _-_, _*_, _≤_, _<_}
 use mathlib.Core.Path.{_≡_, refl, sym, ap, ap₂, _∙_}
 use mathlib.Core.List.{List}
-use mathlib.Core.Bool.{Bool, true, false, not, _||_}
+use mathlib.Core.Bool.{Bool, true, false, not, cond, _||_}
 use native.Mathlib.Omega.{arith}
 use native.Mathlib.Decide.{decLe}
 use lib.Dec.{eqb, ltb}
 use lib.ListN.{length, getD, take}
 use lib.Seq.{take-all, length-take-le, getD-take}
 use borrow.Author.Tests.{le-ltb, ltb-false, ne-eqb}
+use Rattle.reliability.specs.declared.Figure.{Figure}
+use Rattle.reliability.specs.Networks.{Network, linkAt}
+use Rattle.reliability.specs.Rule.{isLoop}
+use Rattle.reliability.specs.Comparisons.{importance}
+use Rattle.reliability.proofs.Comparisons.{importance-width-of-equal}
 use Rattle.plan.specs.declared.Cause.the-variants.{Short, Nodes, Links, Length}
 use Rattle.plan.specs.declared.Verdict.{Verdict}
-use Rattle.plan.specs.declared.Verdict.the-variants.{Refused}
-use Rattle.plan.specs.Plans.{sizeN, sizeM, refusedIf, linksVerdict, verdict}
-use Rattle.listing.specs.Listings.{listingBy, listing}
+use Rattle.plan.specs.declared.Verdict.the-variants.{Accepted, Refused}
+use Rattle.plan.specs.Plans.{sizeN, sizeM, refusedIf, linksVerdict, verdict, planOf}
+use Rattle.plan.proofs.Accepted.{plan-valid, plan-equal, plan-links, plan-nodes}
+use Rattle.listing.specs.Listings.{importanceLimit, listingBy, listing, importanceWidth}
 
 -- ---- an input longer than any plan
 
@@ -66,3 +72,23 @@ module _ (b : List ℕ) (k : ℕ) (more : 388 < k) where
           ap (λ (v : Verdict). listingBy v front) (too-long front (omega (arith, l)) ∙ same-sizes)
           ∙ same-text (eqb n 0 || ltb 32 n) (ltb 64 (sizeM b)) front b
           ∙ sym (ap (λ (v : Verdict). listingBy v b) (too-long b (omega arith)))
+
+-- ---- a limit that was too small
+
+kept-at-most : (t : Bool) (n : ℕ) → cond t n (n - 1) ≤ n
+kept-at-most true n = omega arith
+kept-at-most false n = omega arith
+
+module _ (plan : List ℕ) (accepted : verdict plan ≡ Accepted) (i : ℕ) (place : i < sizeM plan) where
+  abbrev g : Network
+  g = planOf plan
+
+  abbrev f : Figure
+  f = importance g i importanceLimit
+
+  -- so one that is wider is not finished
+  pub importance-width : f .finished ≡ true → f .high ≤ f .low + importanceWidth plan
+  importance-width done =
+      let present : i < length (g .links) = omega (arith, place, plan-links plan) in
+      let w = importance-width-of-equal g (plan-valid plan accepted) i present importanceLimit (plan-equal plan) done in
+      omega (arith, w, plan-links plan, plan-nodes plan, kept-at-most (isLoop (linkAt g i)) (length (g .nodes)))

@@ -1,5 +1,5 @@
 -- The listing of a plan: its text, in ASCII.
-use Prim.Native.Nat.{ℕ, zero, suc}
+use Prim.Native.Nat.{ℕ, zero, suc, _+_, _*_}
 use mathlib.Core.Path.{_≡_}
 use mathlib.Core.List.{List, [], _∷_, _++_}
 use mathlib.Core.Bool.{cond}
@@ -14,9 +14,19 @@ use Rattle.plan.specs.declared.Verdict.{Verdict}
 use Rattle.plan.specs.declared.Verdict.the-variants.{Accepted, Refused}
 use Rattle.plan.specs.Plans.{sizeN, sizeM, verdict, number, namedLink, linkIn, planOf}
 
--- the default limit, for the figure and for each evaluation behind an importance
-abbrev pub limit : ℕ
-limit = 20000
+-- ---- limits
+
+-- the steps that the plan's figure may take
+abbrev pub figureLimit : ℕ
+figureLimit = 100000
+
+-- the steps that each of the two evaluations behind an importance may take
+abbrev pub importanceLimit : ℕ
+importanceLimit = 20000
+
+-- the most by which the high of a finished importance is above its low: both evaluations' bounds, of m links and n nodes each
+abbrev pub importanceWidth : List ℕ → ℕ
+importanceWidth plan = 4 * sizeM plan + 8 * sizeN plan
 
 -- ---- lines
 
@@ -32,12 +42,16 @@ linkLine i e f = filled (i ∷ e .a ∷ e .b ∷ e .low ∷ f .low ∷ f .high �
 
 -- the line of link i of a plan
 abbrev pub lineOf : List ℕ → ℕ → List ℕ
-lineOf plan i = linkLine i (linkIn plan i) (importance (planOf plan) i limit)
+lineOf plan i = linkLine i (linkIn plan i) (importance (planOf plan) i importanceLimit)
 
 -- the links of a plan from i on, k of them
 unfoldable pub linkLines : List ℕ → ℕ → ℕ → List ℕ
 linkLines plan i zero = []
 linkLines plan i (suc k) = lineOf plan i ++ linkLines plan (suc i) k
+
+-- both limits
+abbrev pub limitsLine : List ℕ
+limitsLine = filled (figureLimit ∷ importanceLimit ∷ []) (text "limits 0 1\n")
 
 -- number and link of a refusal
 abbrev pub refusedLine : Cause → List ℕ
@@ -46,7 +60,7 @@ refusedLine c = filled (number c ∷ namedLink c ∷ []) (text "refused 0 at 1\n
 -- ---- the listing
 
 abbrev pub listingBy : Verdict → List ℕ → List ℕ
-listingBy Accepted plan = sizesLine (sizeN plan) (sizeM plan) ++ figureLine (figure (planOf plan) limit) ++ linkLines plan 0 (sizeM plan)
+listingBy Accepted plan = sizesLine (sizeN plan) (sizeM plan) ++ figureLine (figure (planOf plan) figureLimit) ++ linkLines plan 0 (sizeM plan) ++ limitsLine
 listingBy (Refused c) plan = refusedLine c
 
 unfoldable pub listing : List ℕ → List ℕ

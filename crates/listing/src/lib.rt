@@ -8,10 +8,13 @@ ghost use Prim.Native.Nat.{ℕ, _+_, _≤_, _<_};
 ghost use lib.ListN.{length, drop};
 ghost use Rattle.lines.specs.Lines.{Puts};
 ghost use Rattle.plan.specs.Plans.{sizeM, verdict};
-ghost use Rattle.listing.specs.Listings.{sizesLine, figureLine, lineOf, linkLines, refusedLine, listingBy, listing, IsRead, Lists};
+ghost use Rattle.listing.specs.Listings.{sizesLine, figureLine, lineOf, linkLines, limitsLine, refusedLine, listingBy, listing, IsRead, Lists};
 
-// The default limit.
-const LIMIT: u64 = 20_000;
+// The steps that the plan's figure may take.
+const FIGURE_LIMIT: u64 = 100_000;
+
+// The steps that each of the two evaluations behind an importance may take.
+const IMPORTANCE_LIMIT: u64 = 20_000;
 
 // As much as there is to read of an input: one byte more than the longest plan has.
 pub const INPUT: usize = 389;
@@ -42,7 +45,7 @@ fn put_link(text: &mut [u8], at: usize, plan: &[u8], i: usize) -> usize
     ensures { λ r. ⌜ Puts (now (text .entry)) at (lineOf (now (plan .entry)) i) (now (text .exit)) r ⌝ }
 {
     let e = plan::link_at(plan, i);
-    let f = factoring::importance(loading::network_of(plan), i, LIMIT);
+    let f = factoring::importance(loading::network_of(plan), i, IMPORTANCE_LIMIT);
     lines::put_line(
         text,
         at,
@@ -65,15 +68,28 @@ fn put_links(text: &mut [u8], at: usize, plan: &[u8]) -> usize
     next
 }
 
+fn put_limits(text: &mut [u8], at: usize) -> usize
+    requires { ⌜ at + length limitsLine ≤ length (now text) ⌝ }
+    ensures { λ r. ⌜ Puts (now (text .entry)) at limitsLine (now (text .exit)) r ⌝ }
+{
+    lines::put_line(
+        text,
+        at,
+        b"limits 0 1\n",
+        &[FIGURE_LIMIT as u32, IMPORTANCE_LIMIT as u32],
+    )
+}
+
 fn put_plan(text: &mut [u8], plan: &[u8]) -> usize
     requires { ⌜ (verdict (now plan) ≡ Verdict.Accepted) × (length (listingBy Verdict.Accepted (now plan)) ≤ length (now text)) ⌝ }
     ensures { λ r. ⌜ Puts (now (text .entry)) 0 (listingBy Verdict.Accepted (now (plan .entry))) (now (text .exit)) r ⌝ }
 {
     let s = reader::sizes_of(plan);
-    let f = factoring::work(loading::network_of(plan), LIMIT);
+    let f = factoring::work(loading::network_of(plan), FIGURE_LIMIT);
     let first = put_sizes(text, s.n, s.m);
     let second = put_figure(text, first, f);
-    put_links(text, second, plan)
+    let third = put_links(text, second, plan);
+    put_limits(text, third)
 }
 
 fn put_refusal(text: &mut [u8], c: Cause) -> usize

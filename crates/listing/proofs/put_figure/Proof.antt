@@ -26,6 +26,12 @@ cast-t10 c = search needs
 slice-aggregate-put-line-2 : tie.Need-slice-aggregate-put-line-2
 slice-aggregate-put-line-2 c = search needs
 
+returns : tie.Need-returns
+returns c =
+    let a = c .before .before .before .before .before .before .before .before .args in
+    let p = c .before .before .put-line in
+    subst (λ (l : List ℕ). Puts (a .text .now) (a .at) l (p .last .0) (p .result)) (line (a .f)) (p .ensures)
+
 put-line-requires : tie.Need-put-line-requires
 put-line-requires c κs =
     let a = c .before .before .before .before .before .args in
@@ -33,12 +39,6 @@ put-line-requires c κs =
 
 same-length : tie.Need-same-length
 same-length c = search needs
-
-returns : tie.Need-returns
-returns c =
-    let a = c .before .before .before .before .before .before .before .before .args in
-    let p = c .before .before .put-line in
-    subst (λ (l : List ℕ). Puts (a .text .now) (a .at) l (p .last .0) (p .result)) (line (a .f)) (p .ensures)
 
 pub put-figure-spec : {M : Type 1} → statement M
 put-figure-spec =

@@ -10,7 +10,7 @@ use Rattle.plan.proofs.Verdicts.{accepted-means}
 use Rattle.reader.specs.Layout.{sizeM}
 use Rattle.loading.proofs.Stands.{stands-importance}
 use Rattle.network.proofs.Picks.{built-used}
-use Rattle.listing.specs.Listings.{limit, linkLine, lineOf}
+use Rattle.listing.specs.Listings.{importanceLimit, linkLine, lineOf}
 use Rattle.lines.specs.Lines.{Puts}
 use borrow.Author.Needs.{needs}
 use Rattle.listing.proofs.put_link.Statement.{statement}
@@ -57,7 +57,14 @@ line : (c : tie.After-importance) → let a = c .before .before .before .before 
 line c =
     let a = c .before .before .before .before .before .args in
     let n = c .before .network-of in
-    ap₂ (λ (e : Link) (f : Figure). linkLine (a .i) e f) (c .before .before .link-at .ensures) (c .importance .ensures ∙ stands-importance (a .plan .now) (n .result) (n .ensures .0) (n .ensures .1) (a .i) (c .before .before .before .before .before .pre .1) limit)
+    ap₂ (λ (e : Link) (f : Figure). linkLine (a .i) e f) (c .before .before .link-at .ensures) (c .importance .ensures ∙ stands-importance (a .plan .now) (n .result) (n .ensures .0) (n .ensures .1) (a .i) (c .before .before .before .before .before .pre .1) importanceLimit)
+
+returns : tie.Need-returns
+returns c =
+    let p = c .before .before .put-line in
+    let q = c .before .before .before .before .before .before .before .before in
+    let a = q .before .before .before .before .before .args in
+    subst (λ (l : List ℕ). Puts (a .text .now) (a .at) l (p .last .0) (p .result)) (line q) (p .ensures)
 
 put-line-requires : tie.Need-put-line-requires
 put-line-requires c κs =
@@ -67,13 +74,6 @@ put-line-requires c κs =
 
 same-length : tie.Need-same-length
 same-length c = search needs
-
-returns : tie.Need-returns
-returns c =
-    let p = c .before .before .put-line in
-    let q = c .before .before .before .before .before .before .before .before in
-    let a = q .before .before .before .before .before .args in
-    subst (λ (l : List ℕ). Puts (a .text .now) (a .at) l (p .last .0) (p .result)) (line q) (p .ensures)
 
 pub put-link-spec : {M : Type 1} → statement M
 put-link-spec =

@@ -38,6 +38,15 @@ loop-holds c = let a = c .before .before .before .before .args in let m = c .bef
       (begun (a .text .now) (a .at) (linkLines (a .plan .now) 0 m)),
 )
 
+loop-again : tie.Need-loop-again Inv-loop μ-loop
+loop-again c =
+    let q = c .before .before .before .before .before in
+    let p = c .before .before .put-link in
+    let a = q .before .before .before .before .before .args in
+    let (e, l, r) = q .loop .inv in
+    let i = q .loop .i in
+    (e, omega arith, goes-on _ _ _ _ _ _ r (lineOf (a .plan .now) i) _ (links-next (a .plan .now) _ i (omega arith)) (p .last .0) (p .result) (p .ensures))
+
 put-link-requires : tie.Need-put-link-requires Inv-loop μ-loop
 put-link-requires c κs =
     let q = c .before .before in
@@ -52,15 +61,6 @@ add-i c = search needs
 
 loop-less : tie.Need-loop-less Inv-loop μ-loop
 loop-less c = omega arith
-
-loop-again : tie.Need-loop-again Inv-loop μ-loop
-loop-again c =
-    let q = c .before .before .before .before .before in
-    let p = c .before .before .put-link in
-    let a = q .before .before .before .before .before .args in
-    let (e, l, r) = q .loop .inv in
-    let i = q .loop .i in
-    (e, omega arith, goes-on _ _ _ _ _ _ r (lineOf (a .plan .now) i) _ (links-next (a .plan .now) _ i (omega arith)) (p .last .0) (p .result) (p .ensures))
 
 same-length : tie.Need-same-length Inv-loop μ-loop
 same-length c = c .before .loop .inv .2 .kept

@@ -10,7 +10,7 @@ use Rattle.reliability.specs.Rule.{figure}
 use Rattle.plan.specs.declared.Verdict.the-variants.{Accepted}
 use Rattle.plan.specs.Plans.{sizeN, sizeM, planOf}
 use Rattle.plan.proofs.Verdicts.{accepted-means}
-use Rattle.listing.specs.Listings.{limit, sizesLine, figureLine, linkLines, listingBy}
+use Rattle.listing.specs.Listings.{figureLimit, sizesLine, figureLine, linkLines, limitsLine, listingBy}
 use Rattle.lines.proofs.Texts.{Remaining, begun, room, goes-on, done}
 use borrow.Author.Needs.{needs}
 use Rattle.listing.proofs.put_plan.Statement.{statement}
@@ -19,6 +19,7 @@ use Rattle.listing.proofs.put_plan.Reads as reads
 use Rattle.listing.proofs.put_plan.Lts as lts
 use Rattle.factoring.proofs.work.Reads as work-reads
 use Rattle.listing.proofs.put_figure.Reads as put-figure-reads
+use Rattle.listing.proofs.put_limits.Reads as put-limits-reads
 use Rattle.listing.proofs.put_links.Reads as put-links-reads
 use Rattle.listing.proofs.put_sizes.Reads as put-sizes-reads
 use Rattle.loading.proofs.network_of.Reads as network-of-reads
@@ -43,26 +44,57 @@ work-requires : tie.Need-work-requires
 work-requires c κs =
     (c .network-of .ensures .2, omega arith)
 
--- the three parts
+-- the parts
 abbrev sizes : List ℕ → List ℕ
 sizes plan = sizesLine (sizeN plan) (sizeM plan)
 
 abbrev pair : List ℕ → List ℕ
-pair plan = figureLine (figure (planOf plan) limit)
+pair plan = figureLine (figure (planOf plan) figureLimit)
 
 abbrev links : List ℕ → List ℕ
 links plan = linkLines plan 0 (sizeM plan)
 
-sizes-next : (c : tie.After-work) → let b = c .before .before .before .before .before .args .plan .now in let s = c .before .before .sizes-of .result in listingBy Accepted b ≡ sizesLine (s .n) (s .m) ++ (pair b ++ links b)
+abbrev later : List ℕ → List ℕ
+later plan = links plan ++ limitsLine
+
+parted : (plan : List ℕ) → listingBy Accepted plan ≡ sizes plan ++ (pair plan ++ later plan)
+parted b = append-assoc (sizes b ++ pair b) (links b) limitsLine ∙ append-assoc (sizes b) (pair b) (later b)
+
+sizes-next : (c : tie.After-work) → let b = c .before .before .before .before .before .args .plan .now in let s = c .before .before .sizes-of .result in listingBy Accepted b ≡ sizesLine (s .n) (s .m) ++ (pair b ++ later b)
 sizes-next c =
     let b = c .before .before .before .before .before .args .plan .now in
     let e = c .before .before .sizes-of .ensures in
-    append-assoc (sizes b) (pair b) (links b) ∙ ap (λ (s : List ℕ). s ++ (pair b ++ links b)) (sym (ap₂ sizesLine (e .0) (e .1)))
+    parted b ∙ ap (λ (s : List ℕ). s ++ (pair b ++ later b)) (sym (ap₂ sizesLine (e .0) (e .1)))
 
-figure-next : (c : tie.After-work) → let b = c .before .before .before .before .before .args .plan .now in pair b ++ links b ≡ figureLine (c .work .result) ++ links b
+figure-next : (c : tie.After-work) → let b = c .before .before .before .before .before .args .plan .now in pair b ++ later b ≡ figureLine (c .work .result) ++ later b
 figure-next c =
     let b = c .before .before .before .before .before .args .plan .now in
-    ap (λ (f : Figure). figureLine f ++ links b) (sym (c .work .ensures ∙ ap (λ (g : Graph). figure g limit) (c .before .network-of .ensures .0)))
+    ap (λ (f : Figure). figureLine f ++ later b) (sym (c .work .ensures ∙ ap (λ (g : Graph). figure g figureLimit) (c .before .network-of .ensures .0)))
+
+sized : (c : tie.After-put-sizes) → let a = c .before .before .before .before .before .before .before .args in Left (a .plan .now) (a .text .now) (c .put-sizes .last .0) (c .put-sizes .result) (pair (a .plan .now) ++ later (a .plan .now))
+sized c =
+    let w = c .before .before in
+    let a = w .before .before .before .before .before .args in
+    let s = w .before .before .sizes-of .result in
+    goes-on (a .text .now) 0 _ _ _ _ (begun (a .text .now) 0 (listingBy Accepted (a .plan .now))) (sizesLine (s .n) (s .m)) _ (sizes-next w) (c .put-sizes .last .0) (c .put-sizes .result) (c .put-sizes .ensures)
+
+figured : (c : tie.After-put-figure) → let a = c .before .before .before .before .before .before .before .before .before .before .before .args in Left (a .plan .now) (a .text .now) (c .put-figure .last .0) (c .put-figure .result) (later (a .plan .now))
+figured c =
+    let q = c .before .before .before .before in
+    let w = q .before .before in
+    goes-on _ _ _ _ _ _ (sized q) (figureLine (w .work .result)) _ (figure-next w) (c .put-figure .last .0) (c .put-figure .result) (c .put-figure .ensures)
+
+linked : (c : tie.After-put-links) → let a = c .before .before .before .before .before .before .before .before .before .before .before .before .before .before .before .args in Left (a .plan .now) (a .text .now) (c .put-links .last .0) (c .put-links .result) limitsLine
+linked c =
+    let q = c .before .before .before .before in
+    let a = q .before .before .before .before .before .before .before .before .before .before .before .args in
+    goes-on _ _ _ _ _ _ (figured q) (links (a .plan .now)) limitsLine refl (c .put-links .last .0) (c .put-links .result) (c .put-links .ensures)
+
+returns : tie.Need-returns
+returns c =
+    let p = c .before .before .put-limits in
+    let q = c .before .before .before .before .before .before in
+    done _ _ _ _ _ _ (goes-on _ _ _ _ _ _ (linked q) limitsLine [] (sym (append-nil limitsLine)) (p .last .0) (p .result) (p .ensures)) refl
 
 put-sizes-requires : tie.Need-put-sizes-requires
 put-sizes-requires c κs =
@@ -71,42 +103,26 @@ put-sizes-requires c κs =
     let h = room (a .text .now) 0 _ _ _ _ (begun (a .text .now) 0 (listingBy Accepted (a .plan .now))) (sizesLine (s .n) (s .m)) _ (sizes-next (c .before)) (fits (c .before .before .before .before .before .before)) in
     omega (arith, h)
 
-sized : (c : tie.After-put-sizes) → let a = c .before .before .before .before .before .before .before .args in Left (a .plan .now) (a .text .now) (c .put-sizes .last .0) (c .put-sizes .result) (pair (a .plan .now) ++ links (a .plan .now))
-sized c =
-    let w = c .before .before in
-    let a = w .before .before .before .before .before .args in
-    let s = w .before .before .sizes-of .result in
-    goes-on (a .text .now) 0 _ _ _ _ (begun (a .text .now) 0 (listingBy Accepted (a .plan .now))) (sizesLine (s .n) (s .m)) _ (sizes-next w) (c .put-sizes .last .0) (c .put-sizes .result) (c .put-sizes .ensures)
-
 put-figure-requires : tie.Need-put-figure-requires
 put-figure-requires c κs =
     let q = c .before .before .before in
     let w = q .before .before in
     room _ _ _ _ _ _ (sized q) (figureLine (w .work .result)) _ (figure-next w) (fits (w .before .before .before .before .before))
 
-figured : (c : tie.After-put-figure) → let a = c .before .before .before .before .before .before .before .before .before .before .before .args in Left (a .plan .now) (a .text .now) (c .put-figure .last .0) (c .put-figure .result) (links (a .plan .now))
-figured c =
-    let q = c .before .before .before .before in
-    let w = q .before .before in
-    goes-on _ _ _ _ _ _ (sized q) (figureLine (w .work .result)) _ (figure-next w) (c .put-figure .last .0) (c .put-figure .result) (c .put-figure .ensures)
-
 put-links-requires : tie.Need-put-links-requires
 put-links-requires c κs =
     let q = c .before .before .before in
     let start = q .before .before .before .before .before .before .before .before .before .before .before in
-    let a = start .args in
-    (start .pre .0, room _ _ _ _ _ _ (figured q) (links (a .plan .now)) [] (sym (append-nil (links (a .plan .now)))) (fits start))
+    (start .pre .0, room _ _ _ _ _ _ (figured q) (links (start .args .plan .now)) limitsLine refl (fits start))
+
+put-limits-requires : tie.Need-put-limits-requires
+put-limits-requires c κs =
+    let q = c .before .before .before in
+    let start = q .before .before .before .before .before .before .before .before .before .before .before .before .before .before .before in
+    room _ _ _ _ _ _ (linked q) limitsLine [] (sym (append-nil limitsLine)) (fits start)
 
 same-length : tie.Need-same-length
 same-length c = search needs
-
-returns : tie.Need-returns
-returns c =
-    let p = c .before .before .put-links in
-    let q = c .before .before .before .before .before .before in
-    let a = q .before .before .before .before .before .before .before .before .before .before .before .args in
-    let r = goes-on _ _ _ _ _ _ (figured q) (links (a .plan .now)) [] (sym (append-nil (links (a .plan .now)))) (p .last .0) (p .result) (p .ensures) in
-    done _ _ _ _ _ _ r refl
 
 pub put-plan-spec : {M : Type 1} → statement M
 put-plan-spec =
@@ -118,5 +134,6 @@ put-plan-spec =
     put-sizes-requires
     put-figure-requires
     put-links-requires
+    put-limits-requires
     same-length
     returns)

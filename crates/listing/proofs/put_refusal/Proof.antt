@@ -37,6 +37,14 @@ slice-aggregate-put-line-2 c = search needs
 line : (c : Cause) (r i : ℕ) → r ≡ number c → i ≡ namedLink c → filled (r ∷ i ∷ []) (text "refused 0 at 1\n") ≡ refusedLine c
 line c r i e f = ap₂ (λ (x y : ℕ). filled (x ∷ y ∷ []) (text "refused 0 at 1\n")) e f
 
+returns : tie.Need-returns
+returns c =
+    let a = c .before .before .before .before .before .before .before .before .before .args in
+    let n = c .before .before .before .before .before .number-of in
+    let i = c .before .before .before .before .named-link in
+    let p = c .before .before .put-line in
+    subst (λ (l : List ℕ). Puts (a .text .now) 0 l (p .last .0) (p .result)) (line (a .c) (n .result) (i .result) (n .ensures) (i .ensures)) (p .ensures)
+
 put-line-requires : tie.Need-put-line-requires
 put-line-requires c κs =
     let a = c .before .before .before .before .before .before .args in
@@ -46,14 +54,6 @@ put-line-requires c κs =
 
 same-length : tie.Need-same-length
 same-length c = search needs
-
-returns : tie.Need-returns
-returns c =
-    let a = c .before .before .before .before .before .before .before .before .before .args in
-    let n = c .before .before .before .before .before .number-of in
-    let i = c .before .before .before .before .named-link in
-    let p = c .before .before .put-line in
-    subst (λ (l : List ℕ). Puts (a .text .now) 0 l (p .last .0) (p .result)) (line (a .c) (n .result) (i .result) (n .ensures) (i .ensures)) (p .ensures)
 
 pub put-refusal-spec : {M : Type 1} → statement M
 put-refusal-spec =

@@ -3,11 +3,11 @@ use borrow.Author.Needs.{needs}
 use Rattle.listing.proofs.put_sizes.Statement.{statement}
 use Rattle.listing.proofs.put_sizes.Tie as tie
 
-put-line-requires : tie.Need-put-line-requires
-put-line-requires c κs = omega (arith, c .before .before .before .before .pre)
-
 returns : tie.Need-returns
 returns c = c .before .before .put-line .ensures
+
+put-line-requires : tie.Need-put-line-requires
+put-line-requires c κs = omega (arith, c .before .before .before .before .pre)
 
 pub put-sizes-spec : {M : Type 1} → statement M
 put-sizes-spec = tie.close (tie.spec (λ c. search needs) (λ c. search needs) put-line-requires (λ c. search needs) returns)
