@@ -152,8 +152,14 @@ const OTHERS: [(i64, &str); 40] = [
     (42, "16 bytes are cleared on a refusal"),
     (43, "an importance is finished where one evaluation is"),
     (44, "a difference is finished where one evaluation is"),
-    (45, "an importance's high is one less where one evaluation is finished"),
-    (46, "a difference's high is one less where one evaluation is finished"),
+    (
+        45,
+        "an importance's high is one less where one evaluation is finished",
+    ),
+    (
+        46,
+        "a difference's high is one less where one evaluation is finished",
+    ),
 ];
 
 fn slips() -> Vec<Slip> {
@@ -181,8 +187,15 @@ fn write_libraries(folder: &Path) {
     ran(Command::new("ar").arg("rs").arg(&archive).arg(&object));
 }
 
-/// The test programs of the documents, the arithmetic and the listing program, which do not make the calls.
-const APART: [&str; 5] = ["readme", "rounding", "ratings", "sample_plans", "planlist"];
+/// The test programs of the gate, the documents, the arithmetic and the listing program, which do not make the calls.
+const APART: [&str; 6] = [
+    "gate",
+    "readme",
+    "rounding",
+    "ratings",
+    "sample_plans",
+    "planlist",
+];
 
 /// Those that take long, and are tried last.
 const LONG: [&str; 3] = ["desk_programs", "desk_stack", "desk_limits"];

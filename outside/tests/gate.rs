@@ -1,59 +1,96 @@
-//! The gate, `.ci/run`, with functions of the shell in place of `rt` and `cargo`.
+//! The gate, `.ci/run`, with scripts of the test in place of `rt` and `cargo`.
 
 use outside::repository::path;
-use std::io::{BufRead, BufReader, Read, Write};
+use std::fs;
+use std::io::{BufRead, BufReader, Write};
+use std::os::unix::fs::PermissionsExt;
+use std::path::{Path, PathBuf};
 use std::process::{Command, Stdio};
+use std::sync::OnceLock;
 
-const VERDICT: &str = "3 passed, 0 failed";
-const PASSED: &str = "echo proved; echo 3 passed, 0 failed";
+/// Each prints the words that it is called with, and then does what a variable says.
+const SCRIPTS: [(&str, &str); 2] = [
+    (
+        "rt",
+        r#"echo "rt $*"; case $1 in ci) eval "$GATE_CI" ;; *) eval "$GATE_LIBRARY" ;; esac"#,
+    ),
+    ("cargo", r#"echo "cargo $*"; eval "$GATE_TESTS""#),
+];
 
-/// The gate, where `rt ci`, `rt staticlib` and `cargo test` do this.
-fn gate(ci: &str, staticlib: &str, tests: &str) -> Command {
-    let rt = format!("() {{ case $1 in ci) {ci} ;; staticlib) {staticlib} ;; esac; }}");
-    let cargo = format!("() {{ {tests}; }}");
+/// What they print in a gate that passes, but for the verdict.
+const WORDS: [&str; 4] = [
+    "rt ci",
+    "rt staticlib test_exports",
+    "rt staticlib desk",
+    "cargo test --release --offline --locked --manifest-path outside/Cargo.toml",
+];
+
+/// The folder with the scripts.
+fn scripts() -> &'static Path {
+    static FOLDER: OnceLock<PathBuf> = OnceLock::new();
+    FOLDER.get_or_init(|| {
+        let folder = Path::new(env!("CARGO_TARGET_TMPDIR")).join("gate");
+        fs::create_dir_all(&folder).unwrap();
+        for (name, body) in SCRIPTS {
+            let script = folder.join(name);
+            fs::write(&script, format!("#!/usr/bin/env bash\n{body}\n")).unwrap();
+            fs::set_permissions(&script, fs::Permissions::from_mode(0o755)).unwrap();
+        }
+        folder
+    })
+}
+
+/// The gate, where `rt ci`, `rt staticlib` and `cargo` do this.
+fn gate(ci: &str, library: &str, tests: &str) -> Command {
+    let others = std::env::var("PATH").unwrap();
     let mut gate = Command::new(path(".ci/run"));
-    gate.env("BASH_FUNC_rt%%", rt)
-        .env("BASH_FUNC_cargo%%", cargo);
+    gate.env("PATH", format!("{}:{others}", scripts().display()))
+        .env("GATE_CI", ci)
+        .env("GATE_LIBRARY", library)
+        .env("GATE_TESTS", tests);
     gate
 }
 
-/// `rt ci` goes on when its first line has been seen, and gives up after 20 seconds.
+/// Each of them goes on when its words have been seen, and gives up after 20 seconds.
 #[test]
 fn a_line_is_seen_at_once_and_the_verdict_last() {
-    let ci = "echo proved; read -t 20 && echo 3 passed, 0 failed";
-    let mut gate = gate(ci, "echo library $2", "echo tested");
-    let mut run = (gate.stdin(Stdio::piped()).stdout(Stdio::piped()))
-        .spawn()
-        .unwrap();
-    let mut output = BufReader::new(run.stdout.take().unwrap());
-    let mut text = String::new();
-    output.read_line(&mut text).unwrap();
-    run.stdin.take().unwrap().write_all(b"seen\n").unwrap();
-    output.read_to_string(&mut text).unwrap();
-    assert!(run.wait().unwrap().success(), "{text}");
-    let expected = "proved\nlibrary test_exports\nlibrary desk\ntested\n3 passed, 0 failed\n";
-    assert_eq!(text, expected);
+    let wait = "read -r -t 20";
+    for verdict in ["1 passed, 0 failed", "274 passed, 0 failed"] {
+        let mut gate = gate(&format!("{wait} && echo {verdict}"), wait, wait);
+        let gate = gate.stdin(Stdio::piped()).stdout(Stdio::piped());
+        let mut run = gate.spawn().unwrap();
+        let mut input = run.stdin.take().unwrap();
+        let mut lines = Vec::new();
+        for line in BufReader::new(run.stdout.take().unwrap()).lines() {
+            lines.push(line.unwrap());
+            // It no longer listens where it has given up.
+            let _ = input.write_all(b"seen\n");
+        }
+        assert_eq!(lines, [&WORDS[..], &[verdict]].concat());
+        assert!(run.wait().unwrap().success());
+    }
 }
 
 #[test]
 fn nothing_else_passes() {
-    let (good, wrong) = ("echo done", "false");
-    for (ci, staticlib, tests) in [
-        ("echo 3 passed, 0 failed; return 1", good, good),
+    let (passed, good, wrong) = ("echo 3 passed, 0 failed", "true", "false");
+    for (ci, library, tests) in [
+        ("echo 3 passed, 0 failed; exit 1", good, good),
         ("echo 3 passed, 0 failed; echo more", good, good),
-        ("echo 2 passed, 1 failed; return 1", good, good),
+        ("echo 2 passed, 1 failed; exit 1", good, good),
         ("echo 2 passed, 1 failed", good, good),
         ("echo 0 passed, 0 failed", good, good),
-        ("echo", good, good),
-        (PASSED, wrong, good),
-        (PASSED, good, wrong),
+        ("true", good, good),
+        (passed, wrong, good),
+        (passed, good, wrong),
     ] {
-        let output = gate(ci, staticlib, tests).output().unwrap();
+        let output = gate(ci, library, tests).output().unwrap();
         let text = String::from_utf8(output.stdout).unwrap();
-        assert!(!output.status.success(), "{ci}, {staticlib}, {tests}");
-        assert_eq!(text.lines().last(), Some(".ci/run: failed"), "{text}");
-        assert!(text.lines().all(|line| line != VERDICT), "{text}");
+        let lines: Vec<&str> = text.lines().collect();
+        assert!(!output.status.success(), "{text}");
+        assert_eq!(lines.last(), Some(&".ci/run: failed"), "{text}");
+        assert!(!lines.contains(&"3 passed, 0 failed"), "{text}");
         let count = "2 passed, 1 failed";
-        assert_eq!(text.contains(count), ci.contains(count), "{text}");
+        assert_eq!(lines.contains(&count), ci.contains(count), "{text}");
     }
 }

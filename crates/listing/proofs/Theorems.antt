@@ -87,8 +87,8 @@ module _ (plan : List ℕ) (accepted : verdict plan ≡ Accepted) (i : ℕ) (pla
   f = importance g i importanceLimit
 
   -- so one that is wider is not finished
-  pub importance-width : f .finished ≡ true → f .high ≤ f .low + importanceWidth plan
-  importance-width done =
+  pub listed-importance-width : f .finished ≡ true → f .high ≤ f .low + importanceWidth plan
+  listed-importance-width done =
       let present : i < length (g .links) = omega (arith, place, plan-links plan) in
       let w = importance-width-of-equal g (plan-valid plan accepted) i present importanceLimit (plan-equal plan) done in
       omega (arith, w, plan-links plan, plan-nodes plan, kept-at-most (isLoop (linkAt g i)) (length (g .nodes)))

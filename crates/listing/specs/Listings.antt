@@ -24,10 +24,6 @@ figureLimit = 100000
 abbrev pub importanceLimit : ℕ
 importanceLimit = 20000
 
--- the most by which the high of a finished importance is above its low: both evaluations' bounds, of m links and n nodes each
-abbrev pub importanceWidth : List ℕ → ℕ
-importanceWidth plan = 4 * sizeM plan + 8 * sizeN plan
-
 -- ---- lines
 
 abbrev pub sizesLine : ℕ → ℕ → List ℕ
@@ -65,6 +61,12 @@ listingBy (Refused c) plan = refusedLine c
 
 unfoldable pub listing : List ℕ → List ℕ
 listing plan = listingBy (verdict plan) plan
+
+-- ---- how wide an importance may be
+
+-- no finished importance has its high further above its low: both evaluations' bounds, each with all m links and n nodes
+abbrev pub importanceWidth : List ℕ → ℕ
+importanceWidth plan = 4 * sizeM plan + 8 * sizeN plan
 
 -- ---- an input that is read into a buffer
 

@@ -26,8 +26,7 @@ put-plan-requires : tie.Need-put-plan-requires
 put-plan-requires c κs =
     let a = c .before .before .before .before .before .args in
     let e = accepted (c .before) in
-    let n : length (a .text .now) ≡ 8192 = omega arith in
-    (e, omega (arith, length-listing (a .plan .now) Accepted e, n))
+    (e, omega (arith, length-listing (a .plan .now) Accepted e))
 
 enum-known-c : tie.Need-enum-known-c
 enum-known-c c = search needs
@@ -38,20 +37,21 @@ refused c = sym (c .before .before .verdict-of .ensures) ∙ c .c .given .1
 put-refusal-requires : tie.Need-put-refusal-requires
 put-refusal-requires c κs =
     let a = c .before .before .before .before .before .before .args in
-    let n : length (a .text .now) ≡ 8192 = omega arith in
-    omega (arith, length-listing (a .plan .now) _ (refused (c .before .before)), n)
+    omega (arith, length-listing (a .plan .now) _ (refused (c .before .before)))
 
 returns : tie.Need-returns
 returns c =
     let a = c .before .before .before .before .before .before .args in
+    let e = accepted (c .before .before) in
     let p = c .put-plan in
-    listed (a .plan .now) Accepted (accepted (c .before .before)) (a .text .now) (p .last .0) (p .result) (omega arith) (p .ensures)
+    listed (a .plan .now) Accepted e (a .text .now) (p .last .0) (p .result) (omega (arith, length-listing (a .plan .now) Accepted e)) (p .ensures)
 
 returns-2 : tie.Need-returns-2
 returns-2 c =
     let a = c .before .before .before .before .before .before .before .args in
+    let e = refused (c .before .before .before) in
     let p = c .put-refusal in
-    listed (a .plan .now) _ (refused (c .before .before .before)) (a .text .now) (p .last .0) (p .result) (omega arith) (p .ensures)
+    listed (a .plan .now) _ e (a .text .now) (p .last .0) (p .result) (omega (arith, length-listing (a .plan .now) _ e)) (p .ensures)
 
 pub listing-spec : {M : Type 1} → statement M
 listing-spec =

@@ -6,6 +6,7 @@ use lib.ListN.{length}
 use Rattle.reliability.specs.declared.Link.{Link}
 use Rattle.reliability.specs.declared.Figure.{Figure}
 use Rattle.reliability.specs.Comparisons.{importance}
+use Rattle.network.specs.Places.{networkOf, indexOf}
 use Rattle.plan.proofs.Verdicts.{accepted-means}
 use Rattle.reader.specs.Layout.{sizeM}
 use Rattle.loading.proofs.Stands.{stands-importance}
@@ -57,7 +58,8 @@ line : (c : tie.After-importance) → let a = c .before .before .before .before 
 line c =
     let a = c .before .before .before .before .before .args in
     let n = c .before .network-of in
-    ap₂ (λ (e : Link) (f : Figure). linkLine (a .i) e f) (c .before .before .link-at .ensures) (c .importance .ensures ∙ stands-importance (a .plan .now) (n .result) (n .ensures .0) (n .ensures .1) (a .i) (c .before .before .before .before .before .pre .1) importanceLimit)
+    let worked : c .importance .result ≡ importance (networkOf (n .result)) (indexOf (n .result) (a .i)) importanceLimit = c .importance .ensures in
+    ap₂ (λ (e : Link) (f : Figure). linkLine (a .i) e f) (c .before .before .link-at .ensures) (worked ∙ stands-importance (a .plan .now) (n .result) (n .ensures .0) (n .ensures .1) (a .i) (c .before .before .before .before .before .pre .1) importanceLimit)
 
 returns : tie.Need-returns
 returns c =

@@ -7,6 +7,7 @@ use lib.Seq.{sets}
 use Rattle.reliability.specs.declared.Figure.{Figure}
 use Rattle.reliability.specs.Networks.{Network as Graph}
 use Rattle.reliability.specs.Rule.{figure}
+use Rattle.network.specs.Places.{networkOf}
 use Rattle.plan.specs.declared.Verdict.the-variants.{Accepted}
 use Rattle.plan.specs.Plans.{sizeN, sizeM, planOf}
 use Rattle.plan.proofs.Verdicts.{accepted-means}
@@ -69,7 +70,8 @@ sizes-next c =
 figure-next : (c : tie.After-work) → let b = c .before .before .before .before .before .args .plan .now in pair b ++ later b ≡ figureLine (c .work .result) ++ later b
 figure-next c =
     let b = c .before .before .before .before .before .args .plan .now in
-    ap (λ (f : Figure). figureLine f ++ later b) (sym (c .work .ensures ∙ ap (λ (g : Graph). figure g figureLimit) (c .before .network-of .ensures .0)))
+    let worked : c .work .result ≡ figure (networkOf (c .before .network-of .result)) figureLimit = c .work .ensures in
+    ap (λ (f : Figure). figureLine f ++ later b) (sym (worked ∙ ap (λ (g : Graph). figure g figureLimit) (c .before .network-of .ensures .0)))
 
 sized : (c : tie.After-put-sizes) → let a = c .before .before .before .before .before .before .before .args in Left (a .plan .now) (a .text .now) (c .put-sizes .last .0) (c .put-sizes .result) (pair (a .plan .now) ++ later (a .plan .now))
 sized c =
