@@ -30,6 +30,7 @@ fn scripts() -> &'static Path {
     static FOLDER: OnceLock<PathBuf> = OnceLock::new();
     FOLDER.get_or_init(|| {
         let folder = Path::new(env!("CARGO_TARGET_TMPDIR")).join("gate");
+        let _ = fs::remove_dir_all(&folder);
         fs::create_dir_all(&folder).unwrap();
         for (name, body) in SCRIPTS {
             let script = folder.join(name);
@@ -80,6 +81,8 @@ fn nothing_else_passes() {
         ("echo 2 passed, 1 failed; exit 1", good, good),
         ("echo 2 passed, 1 failed", good, good),
         ("echo 0 passed, 0 failed", good, good),
+        ("echo 3 passed, 0 failed, 1 skipped", good, good),
+        ("echo all 3 passed, 0 failed", good, good),
         ("true", good, good),
         (passed, wrong, good),
         (passed, good, wrong),

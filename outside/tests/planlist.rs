@@ -68,8 +68,8 @@ fn the_mesh() {
     assert_eq!(steps(&text), 100_000);
 }
 
-/// The figure needs 8! - 1 steps and is finished. With each link broken it takes all 20,000 steps, and a step more or less shows
-/// in the importance.
+/// The figure needs 8! - 1 steps and is finished. The evaluation with a link broken takes all 20,000 steps, and a step more or less
+/// shows in the importance.
 #[test]
 fn ten_nodes_each_two_joined() {
     let text = hold(&Plan::complete(10, S / 2).bytes());

@@ -86,7 +86,7 @@ module _ (plan : List ℕ) (accepted : verdict plan ≡ Accepted) (i : ℕ) (pla
   abbrev f : Figure
   f = importance g i importanceLimit
 
-  -- so one that is wider is not finished
+  -- a finished importance is no wider than this, so one that is wider is not finished
   pub listed-importance-width : f .finished ≡ true → f .high ≤ f .low + importanceWidth plan
   listed-importance-width done =
       let present : i < length (g .links) = omega (arith, place, plan-links plan) in

@@ -64,7 +64,7 @@ listing plan = listingBy (verdict plan) plan
 
 -- ---- how wide an importance may be
 
--- no finished importance has its high further above its low: both evaluations' bounds, each with all m links and n nodes
+-- no finished importance has its high further above its low than this: both evaluations' bounds, each with all m links and n nodes
 abbrev pub importanceWidth : List ℕ → ℕ
 importanceWidth plan = 4 * sizeM plan + 8 * sizeN plan
 

@@ -17,15 +17,6 @@ use Rattle.lines.proofs.put_line.Reads as put-line-reads
 line : (f : Figure) → filled (f .low ∷ f .high ∷ f .steps ∷ boolByte (f .finished) ∷ []) (text "low 0 high 1 steps 2 finished 3\n") ≡ figureLine f
 line f = ap (λ (t : ℕ). filled (f .low ∷ f .high ∷ f .steps ∷ t ∷ []) (text "low 0 high 1 steps 2 finished 3\n")) (as-byte (f .finished))
 
-slice-aggregate-put-line : tie.Need-slice-aggregate-put-line
-slice-aggregate-put-line c = search needs
-
-cast-t10 : tie.Need-cast-t10
-cast-t10 c = search needs
-
-slice-aggregate-put-line-2 : tie.Need-slice-aggregate-put-line-2
-slice-aggregate-put-line-2 c = search needs
-
 returns : tie.Need-returns
 returns c =
     let a = c .before .before .before .before .before .before .before .before .args in
@@ -37,16 +28,13 @@ put-line-requires c κs =
     let a = c .before .before .before .before .before .args in
     subst (λ (l : List ℕ). a .at + length l ≤ length (a .text .now)) (sym (line (a .f))) (c .before .before .before .before .before .pre)
 
-same-length : tie.Need-same-length
-same-length c = search needs
-
 pub put-figure-spec : {M : Type 1} → statement M
 put-figure-spec =
     tie.close
     (tie.spec
-    slice-aggregate-put-line
-    cast-t10
-    slice-aggregate-put-line-2
+    (λ c. search needs)
+    (λ c. search needs)
+    (λ c. search needs)
     put-line-requires
-    same-length
+    (λ c. search needs)
     returns)

@@ -7,7 +7,7 @@ returns : tie.Need-returns
 returns c = c .before .before .put-line .ensures
 
 put-line-requires : tie.Need-put-line-requires
-put-line-requires c κs = c .before .before .before .before .pre
+put-line-requires c κs = omega (arith, c .before .before .before .before .pre)
 
 pub put-limits-spec : {M : Type 1} → statement M
 put-limits-spec =
