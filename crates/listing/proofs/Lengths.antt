@@ -65,9 +65,12 @@ length-links plan i (suc k) =
 
 -- ---- the whole listing
 
+-- no listing has more bytes than this, so 8,192 hold every one
+abbrev pub most : ℕ
+most = 4675
+
 module _ (plan : List ℕ) where
-  -- no listing has more bytes than this, so 8,192 hold every one
-  pub length-listing : (v : Verdict) → verdict plan ≡ v → length (listingBy v plan) ≤ 4675
+  pub length-listing : (v : Verdict) → verdict plan ≡ v → length (listingBy v plan) ≤ most
   length-listing Accepted e =
       let w = accepted-means plan .0 e in
       let f = figure (planOf plan) figureLimit in
@@ -81,8 +84,9 @@ module _ (plan : List ℕ) where
   listing-is v e = ap (λ u. listingBy u plan) e
 
   -- the text once it is written, the bytes behind it as they were
-  pub listed : (v : Verdict) → verdict plan ≡ v → (b l : List ℕ) (r : ℕ) → length (listingBy v plan) ≤ length b → Puts b 0 (listingBy v plan) l r
+  pub listed : (v : Verdict) → verdict plan ≡ v → (b l : List ℕ) (r : ℕ) → most ≤ length b → Puts b 0 (listingBy v plan) l r
       → (r ≡ length (listing plan)) × ((r ≤ length l) × (l ≡ listing plan ++ drop (length (listing plan)) b))
-  listed v e b l r h p =
+  listed v e b l r n p =
       let t = listingBy v plan in
+      let h : length t ≤ length b = omega (arith, length-listing v e, n) in
       rw (listing-is v e) (omega (arith, p .1), (omega (arith, p .1, ap length (p .0), length-sets b 0 t, h), p .0 ∙ sets-eq t b 0 (omega (arith, h)) ∙ ap (λ (k : ℕ). t ++ drop k b) (zero-add (length t))))

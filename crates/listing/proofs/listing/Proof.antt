@@ -42,16 +42,14 @@ put-refusal-requires c κs =
 returns : tie.Need-returns
 returns c =
     let a = c .before .before .before .before .before .before .args in
-    let e = accepted (c .before .before) in
     let p = c .put-plan in
-    listed (a .plan .now) Accepted e (a .text .now) (p .last .0) (p .result) (omega (arith, length-listing (a .plan .now) Accepted e)) (p .ensures)
+    listed (a .plan .now) Accepted (accepted (c .before .before)) (a .text .now) (p .last .0) (p .result) (omega arith) (p .ensures)
 
 returns-2 : tie.Need-returns-2
 returns-2 c =
     let a = c .before .before .before .before .before .before .before .args in
-    let e = refused (c .before .before .before) in
     let p = c .put-refusal in
-    listed (a .plan .now) _ e (a .text .now) (p .last .0) (p .result) (omega (arith, length-listing (a .plan .now) _ e)) (p .ensures)
+    listed (a .plan .now) _ (refused (c .before .before .before)) (a .text .now) (p .last .0) (p .result) (omega arith) (p .ensures)
 
 pub listing-spec : {M : Type 1} → statement M
 listing-spec =
