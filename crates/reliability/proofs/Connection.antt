@@ -57,7 +57,7 @@ const-at χ (f ∷ t) c (List·Memᴰ·head p) = ap (λ (e : Ends). χ (e .a)) p
 const-at χ (f ∷ t) c (List·Memᴰ·tail m) = const-at χ t (c .1) m
 
 -- one colour along a path
-along : (χ : ℕ → ℕ) (t : List Ends) {u v : ℕ} → Const χ t → Path t u v → χ u ≡ χ v
+pub along : (χ : ℕ → ℕ) (t : List Ends) {u v : ℕ} → Const χ t → Path t u v → χ u ≡ χ v
 along χ t c here = refl
 along χ t c (forth m p) = const-at χ t c m ∙ along χ t c p
 along χ t c (back m p) = sym (const-at χ t c m) ∙ along χ t c p
@@ -78,6 +78,10 @@ label-const (e ∷ t) =
     let x = label t (e .a) in
     let y = label t (e .b) in
     (merged x y x (λ n. omega arith) ∙ sym (merged x y y (λ n. omega arith)), const-map (merge x y) (label t) t (label-const t))
+
+-- two nodes have one label: a path joins them
+pub label-means : (t : List Ends) (u v : ℕ) → (label t u ≡ label t v) ↔ Path t u v
+label-means t u v = (λ e. join (to-label t u) (rw e (turn (to-label t v))), along (label t) t (label-const t))
 
 -- ---- connected
 
@@ -102,7 +106,7 @@ connected-complete (w ∷ vs) t h =
 -- the links t connect the nodes vs: a path of them leads from each to each
 pub connected-means : (vs : List ℕ) (t : List Ends) → (connected vs t ≡ true) ↔ ((u v : ℕ) → List·Memᴰ u vs → List·Memᴰ v vs → Path t u v)
 connected-means vs t = (
-  λ h u v m n. join (to-label t u) (rw (one-label vs t h u v m n) (turn (to-label t v))),
+  λ h u v m n. label-means t u v .0 (one-label vs t h u v m n),
   λ paths. connected-complete vs t (λ χ c u v m n. along χ t c (paths u v m n)),
 )
 

@@ -9,8 +9,9 @@ use Rattle.rounding.specs.Rounding.{S, quotient, product, parallel, either, ser
 use Rattle.rounding.specs.declared.Direction.the-variants.{Down}
 use Rattle.reliability.specs.declared.Link.{Link}
 use Rattle.reliability.specs.declared.Figure.{Figure}
-use Rattle.reliability.specs.Networks.{Network, linked, merge, label, every, connected}
+use Rattle.reliability.specs.Networks.{Network, merge, label, every, connected, lastOfEach}
 use Rattle.reliability.specs.Exact.{sum, exact}
+use Rattle.reliability.proofs.Pieces.{link}
 use Rattle.reliability.specs.Rule.{firstAt, places, firstPair, lowest, nextAt, deleteAt, without, leaves, grown, treeOf, run, figure}
 
 -- a row: nodes, links, limit; low, high, steps, finished; the exact figure in units
@@ -35,9 +36,6 @@ right r =
     let f : Figure = figure g (r .limit) in
     eqb (f .low) (r .low) && eqb (f .high) (r .high) && eqb (f .steps) (r .steps) && same (f .finished) (r .finished)
     && eqb (S * exact Down g) (r .exactly * S ^ length (r .links))
-
-pub link : ℕ → ℕ → ℕ → Link
-link a b p = linked a b (λ d. p)
 
 pub triangle : ℕ → List Link
 triangle p = link 0 1 p ∷ link 1 2 p ∷ link 0 2 p ∷ []
@@ -77,5 +75,5 @@ rows =
     ∷ []
 
 pub examples : every right rows ≡ true
-unfolding right same rows row link triangle half four five treeOf grown run leaves nextAt without deleteAt lowest firstPair places firstAt exact sum connected every label merge quotient product parallel either series factor split
+unfolding right same rows row link triangle half four five treeOf grown run leaves nextAt without deleteAt lowest firstPair places firstAt exact sum lastOfEach connected every label merge quotient product parallel either series factor split
 examples = refl

@@ -1,5 +1,6 @@
 pub mod Lists
 pub mod Connection
+pub mod Pieces
 pub mod Searches
 pub mod States
 pub mod Validity

@@ -2,13 +2,13 @@
 use Prim.Native.Nat.{ℕ, zero, suc, _<_}
 use mathlib.Core.Path.{_≡_, refl, sym, ap, _∙_}
 use mathlib.Core.List.{List, [], _∷_, map, List·Memᴰ, List·Memᴰ·head, List·Memᴰ·tail, List·Memᴰ·not-nil, List·Memᴰ·cases-cons}
-use mathlib.Core.Bool.{Bool, true, false, _||_, and-eq-true-iff}
+use mathlib.Core.Bool.{Bool, true, false, _||_, true≢false, and-eq-true-iff}
 use mathlib.Core.Logic.{_⊎_, inl, inr, ⊎-map, ⊎-elim}
 use lib.Dec.{eqb}
 use native.Mathlib.Nat.{not-suc-le-zero, le-of-suc-le-suc}
 use lib.ListN.{length, getD, set}
 use borrow.Author.Tests.{eqb-true, eqb-false}
-use Rattle.reliability.specs.Networks.{every}
+use Rattle.reliability.specs.Networks.{every, filter}
 use Rattle.reliability.specs.Rule.{deleteAt, without}
 
 -- what holds of a test of two numbers, either way
@@ -95,6 +95,37 @@ module _ {A B : Type 0} (f : A → B) where
   map-set [] i y = refl
   map-set (x ∷ l) zero y = refl
   map-set (x ∷ l) (suc i) y = ap (λ r. f x ∷ r) (map-set l i y)
+
+-- those at which a test holds
+module _ (p : ℕ → Bool) where
+  module _ (k : ℕ) (ks : List ℕ) where
+    pub filter-here : p k ≡ true → filter p (k ∷ ks) ≡ k ∷ filter p ks
+    unfolding filter
+    filter-here h = rw (h, filter)
+
+    pub filter-past : p k ≡ false → filter p (k ∷ ks) ≡ filter p ks
+    unfolding filter
+    filter-past h = rw (h, filter)
+
+  pub filter-mem : (ks : List ℕ) {u : ℕ} → List·Memᴰ u (filter p ks) → List·Memᴰ u ks × (p u ≡ true)
+  unfolding filter
+  filter-mem [] m = absurd (List·Memᴰ·not-nil m)
+  filter-mem (k ∷ ks) {u} m = go (p k) refl m (filter-mem ks)
+    where
+      go : (b : Bool) → p k ≡ b → List·Memᴰ u (elim b as (λ c. List ℕ) [ true ↦ k ∷ filter p ks | false ↦ filter p ks ])
+          → (List·Memᴰ u (filter p ks) → List·Memᴰ u ks × (p u ≡ true)) → List·Memᴰ u (k ∷ ks) × (p u ≡ true)
+      go true e m later = ⊎-elim (λ q. (List·Memᴰ·head q, ap p q ∙ e)) (λ n. (List·Memᴰ·tail (later n .0), later n .1)) (List·Memᴰ·cases-cons m)
+      go false e m later = (List·Memᴰ·tail (later m .0), later m .1)
+
+  pub mem-filter : (ks : List ℕ) {u : ℕ} → List·Memᴰ u ks → p u ≡ true → List·Memᴰ u (filter p ks)
+  unfolding filter
+  mem-filter (k ∷ ks) {u} m h = go (p k) refl (⊎-map (λ q. q) (λ n. mem-filter ks n h) (List·Memᴰ·cases-cons m))
+    where
+      go : (b : Bool) → p k ≡ b → (u ≡ k) ⊎ List·Memᴰ u (filter p ks) → List·Memᴰ u (elim b as (λ c. List ℕ) [ true ↦ k ∷ filter p ks | false ↦ filter p ks ])
+      go true e (inl q) = List·Memᴰ·head q
+      go true e (inr n) = List·Memᴰ·tail n
+      go false e (inl q) = absurd (true≢false (sym h ∙ ap p q ∙ e))
+      go false e (inr n) = n
 
 -- without v: all but v
 module _ (v u : ℕ) where

@@ -1,6 +1,6 @@
 -- What is known where a step fits.
 use Prim.Native.Nat.{ℕ, _≤_, _<_, zero-le, suc-le-suc}
-use mathlib.Core.Path.{_≡_, refl, sym, _∙_}
+use mathlib.Core.Path.{_≡_, refl, sym, ap, _∙_}
 use mathlib.Core.List.{List, [], _∷_, map, List·Memᴰ, List·Memᴰ·head}
 use mathlib.Core.Bool.{Bool, true, false, cond, not, _&&_, _||_, true≢false, and-eq-true-iff}
 use mathlib.Core.Logic.{_⊎_, inl, inr, ⊎-map}
@@ -13,9 +13,10 @@ use borrow.Author.Tests.{eqb-true, eqb-false, leb-true, leb-false}
 use Rattle.reliability.specs.declared.Link.{Link}
 use Rattle.reliability.specs.declared.Step.{Step}
 use Rattle.reliability.specs.declared.Step.the-variants.{OneNode, Disconnected, Loop, Parallel, End, Series, Split}
-use Rattle.reliability.specs.Networks.{Network, Ascending, Valid, ends, linkAt, label, every, connected}
+use Rattle.reliability.specs.Networks.{Network, Ascending, Valid, ends, linkAt, label, every, connected, piecesOf}
 use Rattle.reliability.specs.Rule.{isLoop, touches, alike, firstAt, firstPair, lowest, endOf, seriesOf, when, _otherwise_, nextAt, chosen, next, deleteAt, across}
 use Rattle.reliability.proofs.Lists.{or-true, getD-mem}
+use Rattle.reliability.proofs.Pieces.{one-piece}
 use Rattle.reliability.proofs.Lawful.{View, Place}
 use Rattle.reliability.proofs.Searches.{Answers, Holds, Fails, first-at, Placed, Pair, first-pair, lowest-of}
 use Rattle.reliability.proofs.States.{Joins, Off}
@@ -143,11 +144,36 @@ module _ (g : Network) (no-loop : Fails isLoop (g .links)) where
   series-fits v n (i ∷ (j ∷ [])) h = at-series g no-loop v i j n h
   series-fits v n (i ∷ (j ∷ (k ∷ r))) h = tt
 
+-- more than one node are connected if they are in one piece, else not
+whole-by : (g : Network) → leb (length (g .nodes)) 1 ≡ false → (whole : Bool) → eqb (piecesOf g) 1 ≡ whole → connected (g .nodes) (map ends (g .links)) ≡ whole
+whole-by g o whole w = one-piece g (omega (arith, leb-false (length (g .nodes)) 1 o)) ∙ w
+
+-- step 3 fits exactly where the links do not connect the nodes, as before there was a number of pieces
+pub step-by-connection : (i : ℕ) (g : Network) → nextAt i g
+    ≡ (Option·map Loop (firstAt isLoop (g .links)) otherwise when (leb (length (g .nodes)) 1) OneNode
+    otherwise when (not (connected (g .nodes) (map ends (g .links)))) Disconnected
+    otherwise Option·map (λ ij. Parallel (ij .0) (ij .1)) (firstPair (g .links))
+    otherwise lowest endOf (g .links) (g .nodes) otherwise lowest seriesOf (g .links) (g .nodes) otherwise Split i)
+unfolding nextAt
+step-by-connection i g = go (leb (length (g .nodes)) 1) refl
+  where
+    later : Bool → Step
+    later whole =
+        when (not whole) Disconnected
+        otherwise Option·map (λ ij. Parallel (ij .0) (ij .1)) (firstPair (g .links))
+        otherwise lowest endOf (g .links) (g .nodes) otherwise lowest seriesOf (g .links) (g .nodes) otherwise Split i
+
+    go : (one : Bool) → leb (length (g .nodes)) 1 ≡ one
+        → (Option·map Loop (firstAt isLoop (g .links)) otherwise when one OneNode otherwise later (eqb (piecesOf g) 1))
+        ≡ (Option·map Loop (firstAt isLoop (g .links)) otherwise when one OneNode otherwise later (connected (g .nodes) (map ends (g .links))))
+    go true o = refl
+    go false o = ap (λ (whole : Bool). Option·map Loop (firstAt isLoop (g .links)) otherwise later whole) (sym (whole-by g o (eqb (piecesOf g) 1) refl))
+
 -- by the answer of each test in turn
 fits-by : (g : Network) → Valid g → (i : ℕ) → Place view g i
     → (loop : Option ℕ) → Answers (Holds isLoop (g .links)) (Fails isLoop (g .links)) loop
     → (one : Bool) → leb (length (g .nodes)) 1 ≡ one
-    → (whole : Bool) → connected (g .nodes) (map ends (g .links)) ≡ whole
+    → (whole : Bool) → eqb (piecesOf g) 1 ≡ whole
     → (pair : Option (ℕ × ℕ)) → Answers (Pair (g .links)) (Unit {0}) pair
     → (end : Option Step) → (Fails isLoop (g .links) → FitsIf g end)
     → (series : Option Step) → (Fails isLoop (g .links) → FitsIf g series)
@@ -156,19 +182,19 @@ fits-by : (g : Network) → Valid g → (i : ℕ) → Place view g i
 fits-by g valid k at (some i) l one o whole w pair p end e series s =
     record { place = l .place; same = eqb-true (linkAt g i .a) (linkAt g i .b) (l .test) }
 fits-by g valid k at none l true o whole w pair p end e series s = leb-true (length (g .nodes)) 1 o
-fits-by g valid k at none l false o false w pair p end e series s = w
+fits-by g valid k at none l false o false w pair p end e series s = whole-by g o false w
 fits-by g valid k at none l false o true w (some ij) p end e series s =
     record { order = p .order; place = p .place; alike = alike-joins (linkAt g (ij .0)) (linkAt g (ij .1)) (p .test) }
 fits-by g valid k at none l false o true w none p (some t) e series s = e l
 fits-by g valid k at none l false o true w none p none e (some t) s = s l
-fits-by g valid k at none l false o true w none p none e none s = at-split g l (g .nodes) (valid .ascending) (leb-false (length (g .nodes)) 1 o) w k at
+fits-by g valid k at none l false o true w none p none e none s = at-split g l (g .nodes) (valid .ascending) (leb-false (length (g .nodes)) 1 o) (whole-by g o true w) k at
 
 pub fits-at : (g : Network) → Valid g → (i : ℕ) → Place view g i → Fits g (nextAt i g)
 unfolding nextAt
 fits-at g valid i at =
     let es = g .links in
     let vs = g .nodes in
-    fits-by g valid i at (firstAt isLoop es) (first-at isLoop es) (leb (length vs) 1) refl (connected vs (map ends es)) refl (firstPair es) (first-pair es)
+    fits-by g valid i at (firstAt isLoop es) (first-at isLoop es) (leb (length vs) 1) refl (eqb (piecesOf g) 1) refl (firstPair es) (first-pair es)
     (lowest endOf es vs) (λ l. lowest-of (Fits g) endOf es vs (end-fits g l))
     (lowest seriesOf es vs) (λ l. lowest-of (Fits g) seriesOf es vs (series-fits g l))
 

@@ -1,9 +1,9 @@
 -- Networks, and what it means that links connect nodes.
 use Prim.Native.Nat.{ℕ, min, max, _≤_, _<_}
-use mathlib.Core.List.{List, [], _∷_, List·Memᴰ}
-use mathlib.Core.Bool.{Bool, true, cond, _&&_}
+use mathlib.Core.List.{List, [], _∷_, map, List·Memᴰ}
+use mathlib.Core.Bool.{Bool, true, false, cond, not, _&&_}
 use lib.Dec.{eqb}
-use lib.ListN.{getD}
+use lib.ListN.{length, getD}
 use Rattle.rounding.specs.Rounding.{S}
 use Rattle.rounding.specs.declared.Direction.{Direction}
 use Rattle.rounding.specs.declared.Direction.the-variants.{Down, Up}
@@ -68,6 +68,11 @@ unfoldable pub every : {A : Type 0} → (A → Bool) → List A → Bool
 every p [] = true
 every p (x ∷ xs) = p x && every p xs
 
+-- of a list of numbers those at which a test holds
+unfoldable pub filter : (ℕ → Bool) → List ℕ → List ℕ
+filter p [] = []
+filter p (k ∷ ks) = elim (p k) [ true ↦ k ∷ filter p ks | false ↦ filter p ks ]
+
 -- the links t connect the nodes: all have one label
 unfoldable pub connected : List ℕ → List Ends → Bool
 connected [] t = true
@@ -79,3 +84,33 @@ pub data Path (t : List Ends) : ℕ → ℕ → Type 0 where
   here : {v : ℕ} → Path t v v
   forth : {e : Ends} {v : ℕ} → List·Memᴰ e t → Path t (e .b) v → Path t (e .a) v
   back : {e : Ends} {v : ℕ} → List·Memᴰ e t → Path t (e .a) v → Path t (e .b) v
+
+-- ---- pieces
+
+-- two nodes are in one piece of the links t: they have one label, so a path joins them (together-means in proofs/Pieces.antt)
+abbrev pub together : List Ends → ℕ → ℕ → Bool
+together t u v = eqb (label t u) (label t v)
+
+-- of each piece the node that stands last: no later node is in its piece
+unfoldable pub lastOfEach : List ℕ → List Ends → List ℕ
+lastOfEach [] t = []
+lastOfEach (v ∷ vs) t = elim (every (λ u. not (together t u v)) vs) [ true ↦ v ∷ lastOfEach vs t | false ↦ lastOfEach vs t ]
+
+-- how many pieces the links t leave the nodes in
+abbrev pub pieces : List ℕ → List Ends → ℕ
+pieces vs t = length (lastOfEach vs t)
+
+-- those of a network: a loop joins nothing, and a link counts whatever its value
+abbrev pub piecesOf : Network → ℕ
+piecesOf g = pieces (g .nodes) (map ends (g .links))
+
+-- no path of links of t joins two of the nodes
+unfoldable pub Apart : List Ends → List ℕ → Type 0
+Apart t [] = Unit {0}
+Apart t (r ∷ rs) = ((s : ℕ) → List·Memᴰ s rs → Path t r s → ⊥) × Apart t rs
+
+-- rs has one node of each piece of the nodes vs, so it has as many as there are pieces (pieces-count in proofs/Pieces.antt)
+pub record OneOfEach (vs : List ℕ) (t : List Ends) (rs : List ℕ) : Type 0 where
+  pub inside : (r : ℕ) → List·Memᴰ r rs → List·Memᴰ r vs
+  pub each : (v : ℕ) → List·Memᴰ v vs → (r : ℕ) × List·Memᴰ r rs × Path t v r
+  pub apart : Apart t rs

@@ -12,7 +12,7 @@ use Rattle.reliability.specs.declared.Link.{Link}
 use Rattle.reliability.specs.declared.Figure.{Figure}
 use Rattle.reliability.specs.declared.Step.{Step}
 use Rattle.reliability.specs.declared.Step.the-variants.{OneNode, Disconnected, Loop, Parallel, End, Series, Split}
-use Rattle.reliability.specs.Networks.{Network, value, linked, linkAt, ends, connected}
+use Rattle.reliability.specs.Networks.{Network, value, linked, linkAt, piecesOf}
 
 -- ---- searches
 
@@ -78,7 +78,7 @@ unfoldable pub nextAt : ℕ → Network → Step
 nextAt i g =
     Option·map Loop (firstAt isLoop (g .links))  -- 1: a loop, the first
     otherwise when (leb (length (g .nodes)) 1) OneNode  -- 2: one node left
-    otherwise when (not (connected (g .nodes) (map ends (g .links)))) Disconnected  -- 3: not connected
+    otherwise when (not (eqb (piecesOf g) 1)) Disconnected  -- 3: not connected, in more pieces than one
     otherwise Option·map (λ ij. Parallel (ij .0) (ij .1)) (firstPair (g .links))  -- 4: parallel
     otherwise lowest endOf (g .links) (g .nodes)  -- 5: end
     otherwise lowest seriesOf (g .links) (g .nodes)  -- 6: series

@@ -9,7 +9,7 @@ use Rattle.search.specs.declared.Found.the-variants.{At, Nothing}
 use Rattle.search.specs.declared.Pair.{Pair}
 use Rattle.search.specs.declared.Pair.the-variants.{Both}
 use Rattle.search.specs.Searches.{filter, found, pairIn}
-use Rattle.search.proofs.Marks.{filter-here, filter-past}
+use Rattle.reliability.proofs.Lists.{filter-here, filter-past}
 
 abbrev pub first : List ℕ → Option ℕ
 first [] = none

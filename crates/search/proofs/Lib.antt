@@ -3,4 +3,3 @@ pub mod Marks
 pub mod Answers
 pub mod Gather
 pub mod Pairs
-pub mod Flood

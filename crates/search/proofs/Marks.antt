@@ -10,7 +10,7 @@ use borrow.Author.Tests.{eq-eqb, ne-eqb, le-leb, lt-leb}
 use Rattle.bits.specs.Members.{members, firstOf, howMany}
 use Rattle.bits.proofs.Digits.{length-digits, digits-empty}
 use Rattle.bits.proofs.Places.{first-set, count-cleared}
-use Rattle.reliability.proofs.Lists.{by-eqb}
+use Rattle.reliability.proofs.Lists.{by-eqb, filter-here, filter-past}
 use Rattle.search.specs.declared.Found.the-variants.{At, Nothing}
 use Rattle.search.specs.Searches.{pick, from, placesIn, filter, found}
 use Rattle.search.proofs.Sets.{has, has-place}
@@ -49,15 +49,6 @@ pub length-places : (s : ℕ) → length (placesIn s) ≡ howMany (members s)
 length-places s = ap length (places-listed s) ∙ length-listed (members s)
 
 -- ---- a list's elements at which a test holds
-
-module _ (p : ℕ → Bool) (k : ℕ) (ks : List ℕ) where
-  pub filter-here : p k ≡ true → filter p (k ∷ ks) ≡ k ∷ filter p ks
-  unfolding filter
-  filter-here h = rw (h, filter)
-
-  pub filter-past : p k ≡ false → filter p (k ∷ ks) ≡ filter p ks
-  unfolding filter
-  filter-past h = rw (h, filter)
 
 pub filter-suc : (p : ℕ → Bool) (ks : List ℕ) → filter p (map suc ks) ≡ map suc (filter (λ k. p (suc k)) ks)
 unfolding filter

@@ -1,16 +1,16 @@
 -- Sets of places, place by place.
 use Prim.Native.Nat.{ℕ, zero, suc, _+_, _/_, _^_, min, _≤_, _<_}
 use mathlib.Core.Path.{_≡_, refl, sym, ap, _∙_}
-use mathlib.Core.List.{List, [], _∷_, zipWith, List·Memᴰ, List·Memᴰ·head, List·Memᴰ·tail, List·Memᴰ·not-nil, Memᴰ·cast}
+use mathlib.Core.List.{List, [], _∷_, zipWith, List·Memᴰ, List·Memᴰ·head, List·Memᴰ·tail, List·Memᴰ·not-nil}
 use mathlib.Core.Bool.{Bool, true, false, cond, not, _&&_, _||_, true≢false}
-use native.Mathlib.Nat.{pow-suc, add-zero}
+use native.Mathlib.Nat.{pow-suc}
 use native.Mathlib.Omega.{arith}
 use lib.Dec.{eqb}
 use lib.ListN.{length, getD, set}
-use lib.Seq.{getD-set-same, getD-set-other, ext-getD}
+use lib.Seq.{getD-set-same, getD-set-other}
 use Rattle.bits.specs.Members.{digits, members}
 use Rattle.bits.proofs.Places.{getD-zipWith}
-use Rattle.bits.proofs.Digits.{length-digits, digits-injective}
+use Rattle.bits.proofs.Digits.{length-digits}
 use Rattle.reliability.specs.Networks.{Ascending}
 use Rattle.reliability.proofs.Lists.{by-eqb}
 use Rattle.search.specs.Searches.{pick, from, nodesIn, marked, touching, Incidence}
@@ -80,23 +80,9 @@ pub has-zip : (g : Bool → Bool → Bool) → g false false ≡ false → (r s 
     → (p : ℕ) → has r p ≡ g (has s p) (has t p)
 has-zip g z r s t e p = ap (λ (bs : List Bool). getD bs p false) e ∙ getD-zipWith g z (members s) (members t) (same-length s t) p
 
--- a set is known by its members
-pub has-all : (s t : ℕ) → s < 2 ^ 64 → t < 2 ^ 64 → ((p : ℕ) → has s p ≡ has t p) → s ≡ t
-has-all s t hs ht e =
-    digits-injective 64 s t hs ht (ext-getD false (members s) (members t) (same-length s t) (λ p h. e p))
-
 -- ---- the members of a set, listed
 
 -- what stands at place p of the numbers from i on is i + p
-mem-from : (bs : List Bool) (i k p : ℕ) → getD bs p false ≡ true → p < k → List·Memᴰ (i + p) (pick bs (from i k))
-unfolding pick from
-mem-from [] i k p e h = absurd (true≢false (sym e))
-mem-from (b ∷ bs) i zero p e h = absurd (omega arith)
-mem-from (true ∷ bs) i (suc k) zero e h = List·Memᴰ·head (add-zero i)
-mem-from (false ∷ bs) i (suc k) zero e h = absurd (true≢false (sym e))
-mem-from (true ∷ bs) i (suc k) (suc p) e h = List·Memᴰ·tail (Memᴰ·cast (omega arith) (mem-from bs (suc i) k p e (omega arith)))
-mem-from (false ∷ bs) i (suc k) (suc p) e h = Memᴰ·cast (omega arith) (mem-from bs (suc i) k p e (omega arith))
-
 pub from-mem : (bs : List Bool) (i k : ℕ) {u : ℕ} → List·Memᴰ u (pick bs (from i k)) → (p : ℕ) × (getD bs p false ≡ true) × (u ≡ i + p)
 unfolding pick from
 from-mem [] i k m = absurd (List·Memᴰ·not-nil m)
@@ -116,10 +102,7 @@ unfolding from Ascending
 ascending-from i zero = tt
 ascending-from i (suc k) = (λ u m. omega (arith, from-least (suc i) k m), ascending-from (suc i) k)
 
--- the nodes of a set are its members
-pub has-mem : (s u : ℕ) → has s u ≡ true → u < 64 → List·Memᴰ u (nodesIn s)
-has-mem s u e h = Memᴰ·cast (omega arith) (mem-from (members s) 0 64 u e h)
-
+-- the nodes of a set are in it
 pub mem-has : (s u : ℕ) → List·Memᴰ u (nodesIn s) → has s u ≡ true
 mem-has s u m =
     let r = from-mem (members s) 0 64 m in

@@ -7,6 +7,7 @@ use lib.Dec.{eqb}
 use lib.ListN.{getD}
 use Rattle.bits.specs.Members.{members, howMany}
 use Rattle.reliability.specs.Networks.{Ends}
+unfoldable pub use Rattle.reliability.specs.Networks.{filter}
 use Rattle.search.specs.declared.Found.{Found}
 use Rattle.search.specs.declared.Found.the-variants.{At, Nothing}
 use Rattle.search.specs.declared.Pair.{Pair}
@@ -63,11 +64,6 @@ endsByPlace [] bs = []
 endsByPlace (a ∷ as₁) [] = []
 
 -- ---- what the searches find
-
--- of a list of places those at which a test holds
-unfoldable pub filter : (ℕ → Bool) → List ℕ → List ℕ
-filter p [] = []
-filter p (k ∷ ks) = elim (p k) [ true ↦ k ∷ filter p ks | false ↦ filter p ks ]
 
 -- the first of a list
 abbrev pub found : List ℕ → Found

@@ -4,8 +4,7 @@ ghost use Prim.Native.Nat.{_^_, _<_};
 ghost use lib.Dec.{eqb, leb};
 ghost use lib.ListN.{length};
 ghost use Rattle.bits.specs.Members.{members, howMany};
-ghost use Rattle.reliability.specs.Networks.{connected};
-ghost use Rattle.search.specs.Searches.{pick, nodesIn, placesIn, endsByPlace, Incidence, Bounded, Ended, found, loops, beside, pairIn, withLinks};
+ghost use Rattle.search.specs.Searches.{placesIn, Incidence, Bounded, found, loops, beside, pairIn, withLinks};
 
 pub enum Found {
     At(usize),
@@ -50,36 +49,6 @@ pub fn incidence<'r>(alive: u64, a: &'r [u8; 64], b: &'r [u8; 64]) -> [u64; 32]
         at[y] = sy;
     }
     at
-}
-
-// Whether the links in use connect the nodes: from the lowest node on, each link is followed at most once.
-pub fn connects<'r>(
-    nodes: u64,
-    alive: u64,
-    at: &'r [u64; 32],
-    a: &'r [u8; 64],
-    b: &'r [u8; 64],
-) -> bool
-    requires { ⌜ (0 < nodes) × (nodes < 2 ^ 32) × Incidence (now at) alive (now a) (now b) × Ended nodes alive (now a) (now b) ⌝ }
-    ensures { λ r. ⌜ r ≡ connected (nodesIn nodes) (pick (members alive) (endsByPlace (now (a .entry)) (now (b .entry)))) ⌝ }
-{
-    let first = bits::lowest(nodes);
-    let mut seen = bits::with(0, first);
-    let mut near = at[first];
-    let mut left = alive;
-    while seen != nodes {
-        let todo = bits::meet(near, left);
-        if todo == 0 {
-            return false;
-        }
-        let k = bits::lowest(todo);
-        let x = a[k] as usize;
-        let y = b[k] as usize;
-        seen = bits::with(bits::with(seen, x), y);
-        near = bits::union(near, bits::union(at[x], at[y]));
-        left = bits::without(left, k);
-    }
-    true
 }
 
 // The first link with a partner, and its earliest partner.

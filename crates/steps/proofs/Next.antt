@@ -7,11 +7,11 @@ use mathlib.Core.Option.{Option, some, none, Option·map}
 use native.Mathlib.Omega.{arith}
 use lib.Dec.{eqb, leb}
 use lib.ListN.{length, getD, set}
-use borrow.Author.Tests.{eqb-true}
+use borrow.Author.Tests.{eqb-true, eq-eqb, ne-eqb}
 use Rattle.bits.specs.Members.{members, firstOf, howMany}
 use Rattle.reliability.specs.declared.Step.{Step}
 use Rattle.reliability.specs.declared.Step.the-variants.{OneNode, Disconnected, Loop, Parallel, End, Series, Split}
-use Rattle.reliability.specs.Networks.{Valid, ends, connected}
+use Rattle.reliability.specs.Networks.{Valid, pieces, piecesOf}
 use Rattle.reliability.specs.Rule.{isLoop, firstAt, firstPair, lowest, endOf, seriesOf, chosen, _otherwise_, next}
 use Rattle.reliability.proofs.Steps.{Fits, fits}
 use Rattle.network.specs.declared.Network.{Network}
@@ -48,7 +48,7 @@ pub record Whole (n : Network) : Type 0 where
   pub sized : Sized n
   pub no-loop : loops (n .alive) (n .a) (n .b) ≡ []
   pub more : leb (howMany (members (n .nodes))) 1 ≡ false
-  pub whole : connected (nodesOf n) (pick (members (n .alive)) (endsByPlace (n .a) (n .b))) ≡ true
+  pub whole : pieces (nodesOf n) (pick (members (n .alive)) (endsByPlace (n .a) (n .b))) ≡ 1
 
 -- and no two of them are alike
 pub record Unpaired (n : Network) (at : List ℕ) : Type 0 where
@@ -69,8 +69,9 @@ module _ (n : Network) (sized : Sized n) where
   few : (b : Bool) → leb (howMany (members (n .nodes))) 1 ≡ b → leb (length (nodesOf n)) 1 ≡ b
   few b e = ap (λ (l : ℕ). leb l 1) (length-places (n .nodes)) ∙ e
 
-  joined : (b : Bool) → connected (nodesOf n) (pick (members (n .alive)) (endsByPlace (n .a) (n .b))) ≡ b → connected (nodesOf n) (map ends (linksOf n)) ≡ b
-  joined b e = ap (connected (nodesOf n)) (links-ends n sized) ∙ e
+  -- the pieces by place are those of the network
+  pub pieces-right : pieces (nodesOf n) (pick (members (n .alive)) (endsByPlace (n .a) (n .b))) ≡ piecesOf (networkOf n)
+  pieces-right = ap (pieces (nodesOf n)) (sym (links-ends n sized))
 
   module _ (no-loop : loops (n .alive) (n .a) (n .b) ≡ []) where
     no-first : firstAt isLoop (linksOf n) ≡ none
@@ -80,16 +81,19 @@ module _ (n : Network) (sized : Sized n) where
     unfolding ranked
     one-right e = record { by-rule = sym (next-by (networkOf n) none no-first true (few true e) _ refl _ refl _ refl _ refl); placed = tt }
 
-    pub apart-right : leb (howMany (members (n .nodes))) 1 ≡ false → connected (nodesOf n) (pick (members (n .alive)) (endsByPlace (n .a) (n .b))) ≡ false → Fitting n Disconnected
+    pub apart-right : leb (howMany (members (n .nodes))) 1 ≡ false → (pieces (nodesOf n) (pick (members (n .alive)) (endsByPlace (n .a) (n .b))) ≡ 1 → ⊥) → Fitting n Disconnected
     unfolding ranked
-    apart-right more e = record { by-rule = sym (next-by (networkOf n) none no-first false (few false more) false (joined false e) _ refl _ refl _ refl); placed = tt }
+    apart-right more apart = record {
+      by-rule = sym (next-by (networkOf n) none no-first false (few false more) false (ne-eqb (piecesOf (networkOf n)) 1 (λ e. apart (pieces-right ∙ e))) _ refl _ refl _ refl);
+      placed = tt;
+    }
 
 module _ (n : Network) (w : Whole n) where
   by-links : (pair : Option (ℕ × ℕ)) → firstPair (linksOf n) ≡ pair → (end : Option Step) → lowest endOf (linksOf n) (nodesOf n) ≡ end
       → (series : Option Step) → lowest seriesOf (linksOf n) (nodesOf n) ≡ series
       → next (networkOf n) ≡ (Option·map (λ ij. Parallel (ij .0) (ij .1)) pair otherwise end otherwise series otherwise Split (chosen (networkOf n)))
   by-links =
-      next-by (networkOf n) none (no-first n (w .sized) (w .no-loop)) false (few n (w .sized) false (w .more)) true (joined n (w .sized) true (w .whole))
+      next-by (networkOf n) none (no-first n (w .sized) (w .no-loop)) false (few n (w .sized) false (w .more)) true (eq-eqb (piecesOf (networkOf n)) 1 (sym (pieces-right n (w .sized)) ∙ w .whole))
 
   pairs : firstPair (linksOf n) ≡ paired (members (n .alive)) (pairIn (beside (n .a) (n .b)) (placesIn (n .alive)))
   pairs = pair-rule n (w .sized) (w .no-loop)

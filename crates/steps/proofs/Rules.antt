@@ -13,7 +13,7 @@ use Rattle.bits.proofs.Digits.{length-digits}
 use Rattle.reliability.specs.declared.Link.{Link}
 use Rattle.reliability.specs.declared.Step.{Step}
 use Rattle.reliability.specs.declared.Step.the-variants.{OneNode, Disconnected, Loop, Parallel, End, Series, Split}
-use Rattle.reliability.specs.Networks.{Network as Graph, ends, connected}
+use Rattle.reliability.specs.Networks.{Network as Graph, piecesOf}
 use Rattle.reliability.specs.Rule
 use Rattle.reliability.specs.Rule.{isLoop, touches, alike, firstAt, places, firstPair, sucs, endOf, seriesOf, lowest, when, _otherwise_, chosen}
 use Rattle.reliability.proofs.Searches.{nth}
@@ -168,7 +168,7 @@ lowest-where rule es p g (v ∷ vs) h =
 -- the step that fits, by the answer of each test in turn
 pub next-by : (g : Graph) → (loop : Option ℕ) → firstAt isLoop (g .links) ≡ loop
     → (one : Bool) → leb (length (g .nodes)) 1 ≡ one
-    → (whole : Bool) → connected (g .nodes) (map ends (g .links)) ≡ whole
+    → (whole : Bool) → eqb (piecesOf g) 1 ≡ whole
     → (pair : Option (ℕ × ℕ)) → firstPair (g .links) ≡ pair
     → (end : Option Step) → lowest endOf (g .links) (g .nodes) ≡ end
     → (series : Option Step) → lowest seriesOf (g .links) (g .nodes) ≡ series

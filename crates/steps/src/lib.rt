@@ -1,7 +1,18 @@
-// The searches on a network, in the order of the written rule.
+// The searches on a network: its pieces, and which step of the written rule fits.
 use network::Network;
 use reliability::Step;
-ghost use Rattle.network.specs.Places.{Invariant, Fitting};
+ghost use mathlib.Core.Path.{_≡_};
+ghost use Rattle.reliability.specs.Networks.{piecesOf};
+ghost use Rattle.network.specs.Places.{networkOf, Invariant, Fitting};
+
+// How many pieces the links leave the nodes in.
+pub fn pieces(net: Network) -> u32
+    requires { ⌜ Invariant net ⌝ }
+    ensures { λ r. ⌜ r ≡ piecesOf (networkOf net) ⌝ }
+{
+    let at = search::incidence(net.alive, &net.a, &net.b);
+    pieces::count(net.nodes as u64, net.alive, &at, &net.a, &net.b)
+}
 
 // Which step fits.
 pub fn step(net: Network) -> Step
@@ -17,7 +28,7 @@ pub fn step(net: Network) -> Step
         return Step::OneNode;
     }
     let at = search::incidence(alive, &net.a, &net.b);
-    if !search::connects(nodes, alive, &at, &net.a, &net.b) {
+    if pieces::count(nodes, alive, &at, &net.a, &net.b) != 1 {
         return Step::Disconnected;
     }
     if let search::Pair::Both(i, j) = search::first_pair(alive, &at, &net.a, &net.b) {

@@ -6,7 +6,6 @@ use native.Mathlib.Omega.{arith}
 use lib.Dec.{leb}
 use lib.ListN.{getD}
 use borrow.Author.Needs.{needs}
-use borrow.Author.Tests.{leb-false, not-true, not-false}
 use Rattle.bits.specs.Members.{members, howMany}
 use Rattle.search.specs.Searches.{loops, withLinks}
 use Rattle.network.proofs.Picks.{Sized}
@@ -46,7 +45,7 @@ whole-start c = nodes-start (tested (gathered c))
 whole : (c : tie.Else2) → Whole (whole-start c .args .t1)
 whole c =
     let e = tested (gathered c) in
-    record { sized = sized (nodes-start e); no-loop = no-loop (e .before .before); more = more e; whole = sym (c .before .connects .ensures) ∙ not-false _ (c .if2 .left) }
+    record { sized = sized (nodes-start e); no-loop = no-loop (e .before .before); more = more e; whole = omega (arith, c .before .count .ensures, c .if2 .left) }
 
 abbrev connected-at : tie.After-enum-told2 → tie.Else2
 connected-at c = c .before .before .before .before .before .before .before
@@ -101,17 +100,17 @@ incidence-requires c κs =
     let full = sized s in
     (full .a-length, full .b-length, bounded (s .args .t1) full (s .pre .valid))
 
-connects-requires : tie.Need-connects-requires
-connects-requires c κs =
+count-requires : tie.Need-count-requires
+count-requires c κs =
     let i = c .before .before .before .before in
     let s = nodes-start (tested i) in
-    (counted-some (s .args .t1 .nodes) (omega (arith, leb-false (howMany (members (s .args .t1 .nodes))) 1 (more (tested i)))), sized s .nodes, i .incidence .ensures, ended (s .args .t1) (sized s) (s .pre .valid))
+    (sized s .nodes, i .incidence .ensures, ended (s .args .t1) (sized s) (s .pre .valid))
 
 returns-3 : tie.Need-returns-3
 returns-3 c =
     let e = tested (c .before .before .before .before .before .before) in
     let s = nodes-start e in
-    apart-right (s .args .t1) (sized s) (no-loop (e .before .before)) (more e) (sym (c .before .connects .ensures) ∙ not-true _ (c .if2 .taken))
+    apart-right (s .args .t1) (sized s) (no-loop (e .before .before)) (more e) (λ one. omega (arith, c .before .count .ensures, c .if2 .taken))
 
 first-pair-requires : tie.Need-first-pair-requires
 first-pair-requires c κs =
@@ -223,7 +222,7 @@ step-spec =
     at-most-one-requires
     returns-2
     incidence-requires
-    connects-requires
+    count-requires
     returns-3
     first-pair-requires
     enum-known-i-2

@@ -1,5 +1,5 @@
--- Which nodes a node is connected to, found by following each link in use at most once.
-use Prim.Native.Nat.{ℕ, zero, suc, _^_, _<_}
+-- The nodes of a node's piece, found by following each link in use at most once.
+use Prim.Native.Nat.{ℕ, zero, suc, _<_}
 use mathlib.Core.Path.{_≡_, refl, sym, ap, ap₂, subst, _∙_}
 use mathlib.Core.Logic.{_⊎_, inl, inr, ⊎-map, ⊎-elim}
 use mathlib.Core.List.{List, [], _∷_, List·Memᴰ, List·Memᴰ·head, List·Memᴰ·tail}
@@ -10,11 +10,13 @@ use borrow.Author.Tests.{eqb-true, eq-eqb}
 use lib.ListN.{length, getD}
 use Rattle.bits.specs.Members.{members}
 use Rattle.bits.proofs.Digits.{digitOf}
-use Rattle.reliability.specs.Networks.{Ends, connected, Path, here, forth, back}
+use Rattle.reliability.specs.Networks.{Ends, together, Path, here, forth, back}
 use Rattle.reliability.proofs.Lists.{by-eqb}
-use Rattle.reliability.proofs.Connection.{join, turn, Const, Conn, connected-means, not-connected}
-use Rattle.search.specs.Searches.{pick, nodesIn, endsByPlace, touching, Ended}
-use Rattle.search.proofs.Sets.{has, has-none, has-below, has-all, has-mem, mem-has}
+use Rattle.reliability.proofs.Connection.{join, turn, Const, along}
+use Rattle.reliability.proofs.Pieces.{together-means}
+use Rattle.search.specs.Searches.{pick, endsByPlace, touching, Bounded}
+use Rattle.pieces.specs.Pieces.{Closed, PieceOf}
+use Rattle.search.proofs.Sets.{has, has-none}
 
 -- ---- the links in use
 
@@ -105,21 +107,19 @@ module _ {v nodes alive seen near left : ℕ} {as₁ bs : List ℕ} (flood : Flo
   near-link : (k : ℕ) → has near k ≡ true → (has alive k ≡ true) × ((has seen (getD as₁ k 0) || has seen (getD bs k 0)) ≡ true)
   near-link k h = and-eq-true-iff (has alive k) (has seen (getD as₁ k 0) || has seen (getD bs k 0)) .0 (sym (flood .touched k) ∙ h)
 
-  -- its ends are below n where all nodes are
-  pub near-ends : (n : ℕ) → nodes < 2 ^ n → Ended nodes alive as₁ bs → (k : ℕ) → has near k ≡ true → (getD as₁ k 0 < n) × (getD bs k 0 < n)
-  near-ends n small ended k h =
-      let r = ended k (near-link k h .0) in
-      (has-below nodes n (getD as₁ k 0) small (r .0), has-below nodes n (getD bs k 0) small (r .1))
+  -- its ends are below 32
+  pub near-ends : Bounded alive as₁ bs → (k : ℕ) → has near k ≡ true → (getD as₁ k 0 < 32) × (getD bs k 0 < 32)
+  near-ends bounded k h = bounded k (near-link k h .0)
 
   -- link k is followed: both its ends are seen
-  pub follow : (seen′ near′ left′ k : ℕ) → has near k ≡ true → k < length as₁ → k < length bs → Ended nodes alive as₁ bs
+  pub follow : (seen′ near′ left′ k : ℕ) → has near k ≡ true → k < length as₁ → k < length bs → Closed nodes alive as₁ bs
       → ((u : ℕ) → has seen′ u ≡ (eqb u (getD bs k 0) || (eqb u (getD as₁ k 0) || has seen u)))
       → ((p : ℕ) → has near′ p ≡ (has near p || ((has alive p && touching (getD as₁ k 0) (getD as₁ p 0) (getD bs p 0)) || (has alive p && touching (getD bs k 0) (getD as₁ p 0) (getD bs p 0)))))
       → ((p : ℕ) → has left′ p ≡ (not (eqb p k) && has left p))
       → Flood v nodes alive as₁ bs seen′ near′ left′
-  follow seen′ near′ left′ k h ka kb ended s n l = record {
+  follow seen′ near′ left′ k h ka kb closed s n l = record {
     start = kept v (flood .start);
-    inside = reach (λ u. has nodes u ≡ true) (ended k (near-link k h .0)) (flood .inside);
+    inside = reach (λ u. has nodes u ≡ true) stays (flood .inside);
     path = reach (Path links v) joined (flood .path);
     touched = λ p.
         let c = getD as₁ p 0 in
@@ -143,6 +143,11 @@ module _ {v nodes alive seen near left : ℕ} {as₁ bs : List ℕ} (flood : Flo
       links : List Ends
       links = pick (members alive) (endsByPlace as₁ bs)
 
+      stays : (has nodes x ≡ true) × (has nodes y ≡ true)
+      stays =
+          ⊎-elim (λ e. let i = flood .inside x e in (i, sym (closed k (near-link k h .0)) ∙ i)) (λ e. let i = flood .inside y e in (closed k (near-link k h .0) ∙ i, i))
+          (or-cases (has seen x) (has seen y) (near-link k h .1))
+
       joined : Path links v x × Path links v y
       joined =
           both-ends links (record { a = x; b = y }) (mem-ends (members alive) as₁ bs k (near-link k h .0) ka kb)
@@ -163,17 +168,23 @@ module _ {v nodes alive seen near left : ℕ} {as₁ bs : List ℕ} (flood : Flo
           (λ r. ⊎-elim (λ e. subst P (sym (eqb-true u x e)) (new .0)) (old u) (or-cases (eqb u x) (has seen u) r))
           (or-cases (eqb u y) (eqb u x || has seen u) (sym (s u) ∙ h))
 
-  -- all nodes are seen: they are connected
-  pub all-seen : seen ≡ nodes → true ≡ connected (nodesIn nodes) (pick (members alive) (endsByPlace as₁ bs))
-  all-seen e =
-      sym (connected-means (nodesIn nodes) (pick (members alive) (endsByPlace as₁ bs)) .1
-      (λ u w m n. join (turn (flood .path u (rw e (mem-has nodes u m)))) (flood .path w (rw e (mem-has nodes w n)))))
+  abbrev links : List Ends
+  links = pick (members alive) (endsByPlace as₁ bs)
 
-  -- no link near is left, and not all nodes are seen: no link leads from those that are to the others
-  pub cut-off : seen < 2 ^ 64 → nodes < 2 ^ 64 → ((p : ℕ) → (has near p && has left p) ≡ false) → (seen ≡ nodes → ⊥)
-      → false ≡ connected (nodesIn nodes) (pick (members alive) (endsByPlace as₁ bs))
-  cut-off hs hn none other =
-      sym (not-connected (nodesIn nodes) (pick (members alive) (endsByPlace as₁ bs)) (λ conn. other (has-all seen nodes hs hn (same conn))))
+  -- every node that a path joins to v is seen: v's piece
+  piece : ((u : ℕ) → has nodes u ≡ true → Path links v u → has seen u ≡ true) → PieceOf seen nodes links v
+  piece all u =
+      both-ways (has seen u) (has nodes u && together links u v)
+      (λ h. and-eq-true-iff (has nodes u) (together links u v) .1 (flood .inside u h, together-means links u v .1 (turn (flood .path u h))))
+      (λ h. let r = and-eq-true-iff (has nodes u) (together links u v) .0 h in all u (r .0) (turn (together-means links u v .0 (r .1))))
+
+  -- all nodes are seen
+  pub all-seen : seen ≡ nodes → PieceOf seen nodes links v
+  all-seen e = piece (λ u node p. rw e node)
+
+  -- no link near is left: no link leads from the nodes seen to others
+  pub cut-off : ((p : ℕ) → (has near p && has left p) ≡ false) → PieceOf seen nodes links v
+  cut-off none = piece (λ u node p. one (has seen u) (sym (along colour links (const-ends colour (members alive) as₁ bs closed) p) ∙ ap digitOf (flood .start)))
     where
       colour : ℕ → ℕ
       colour u = digitOf (has seen u)
@@ -187,11 +198,3 @@ module _ {v nodes alive seen near left : ℕ} {as₁ bs : List ℕ} (flood : Flo
               (ap (λ (b : Bool). b && (has seen (getD as₁ p 0) || has seen (getD bs p 0))) (sym used) ∙ sym (flood .touched p)
               ∙ sym (and-true (has near p)) ∙ ap (λ (b : Bool). has near p && b) (sym e) ∙ none p)
           go false e = let r = flood .followed p used e in r .0 ∙ sym (r .1)
-
-      node : (u : ℕ) → has nodes u ≡ true → List·Memᴰ u (nodesIn nodes)
-      node u h = has-mem nodes u h (has-below nodes 64 u hn h)
-
-      same : Conn (nodesIn nodes) (pick (members alive) (endsByPlace as₁ bs)) → (u : ℕ) → has seen u ≡ has nodes u
-      same conn u =
-          both-ways (has seen u) (has nodes u) (flood .inside u)
-          (λ h. one (has seen u) (conn colour (const-ends colour (members alive) as₁ bs closed) u v (node u h) (node v (flood .inside v (flood .start))) ∙ ap digitOf (flood .start)))
