@@ -19,10 +19,10 @@ use Rattle.listing.proofs.put_plan.Tie as tie
 use Rattle.listing.proofs.put_plan.Reads as reads
 use Rattle.listing.proofs.put_plan.Lts as lts
 use Rattle.factoring.proofs.work.Reads as work-reads
-use Rattle.listing.proofs.put_figure.Reads as put-figure-reads
-use Rattle.listing.proofs.put_limits.Reads as put-limits-reads
+use Rattle.listing_lines.proofs.put_figure.Reads as put-figure-reads
+use Rattle.listing_lines.proofs.put_limits.Reads as put-limits-reads
 use Rattle.listing.proofs.put_links.Reads as put-links-reads
-use Rattle.listing.proofs.put_sizes.Reads as put-sizes-reads
+use Rattle.listing_lines.proofs.put_sizes.Reads as put-sizes-reads
 use Rattle.loading.proofs.network_of.Reads as network-of-reads
 use Rattle.reader.proofs.sizes_of.Reads as sizes-of-reads
 
