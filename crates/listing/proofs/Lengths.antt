@@ -44,16 +44,17 @@ length-links plan i (suc k) =
 
 -- no listing has more bytes than this, so 8,192 hold every one
 abbrev pub most : ℕ
-most = 4675
+most = 4693
 
 module _ (plan : List ℕ) where
   pub length-listing : (v : Verdict) → verdict plan ≡ v → length (listingBy v plan) ≤ most
   length-listing Accepted e =
       let w = accepted-means plan .0 e in
       let f = figure (planOf plan) figureLimit in
-      let s = sizesLine (sizeN plan) (sizeM plan) in
+      let k : ℕ = 1 in
+      let s = sizesLine (sizeN plan) (sizeM plan) k in
       let l = linkLines plan 0 (sizeM plan) in
-      omega (arith, length-append (s ++ figureLine f ++ l) limitsLine, length-append (s ++ figureLine f) l, length-append s (figureLine f), length-sizes (sizeN plan) (sizeM plan), length-figure f, length-links plan 0 (sizeM plan), length-limits, w .links)
+      omega (arith, length-append (s ++ figureLine f ++ l) limitsLine, length-append (s ++ figureLine f) l, length-append s (figureLine f), length-sizes (sizeN plan) (sizeM plan) k, length-figure f, length-links plan 0 (sizeM plan), length-limits, w .links)
   length-listing (Refused c) e = omega (arith, length-refused c)
 
   listing-is : (v : Verdict) → verdict plan ≡ v → listing plan ≡ listingBy v plan

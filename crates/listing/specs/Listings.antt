@@ -18,8 +18,9 @@ linkLines plan i (suc k) = lineOf plan i ++ linkLines plan (suc i) k
 
 -- ---- the listing
 
+-- 1: to be replaced by the number of pieces
 abbrev pub listingBy : Verdict → List ℕ → List ℕ
-listingBy Accepted plan = sizesLine (sizeN plan) (sizeM plan) ++ figureLine (figure (planOf plan) figureLimit) ++ linkLines plan 0 (sizeM plan) ++ limitsLine
+listingBy Accepted plan = sizesLine (sizeN plan) (sizeM plan) 1 ++ figureLine (figure (planOf plan) figureLimit) ++ linkLines plan 0 (sizeM plan) ++ limitsLine
 listingBy (Refused c) plan = refusedLine c
 
 unfoldable pub listing : List ℕ → List ℕ

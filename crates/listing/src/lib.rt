@@ -31,8 +31,10 @@ fn put_plan(text: &mut [u8], plan: &[u8]) -> usize
     ensures { λ r. ⌜ Puts (now (text .entry)) 0 (listingBy Verdict.Accepted (now (plan .entry))) (now (text .exit)) r ⌝ }
 {
     let s = reader::sizes_of(plan);
-    let f = factoring::work(loading::network_of(plan), listing_lines::FIGURE_LIMIT);
-    let first = listing_lines::put_sizes(text, s.n, s.m);
+    let net = loading::network_of(plan);
+    let k = 1; // to be replaced by the number of pieces
+    let f = factoring::work(net, listing_lines::FIGURE_LIMIT);
+    let first = listing_lines::put_sizes(text, s.n, s.m, k);
     let second = listing_lines::put_figure(text, first, f);
     let third = put_links(text, second, plan);
     listing_lines::put_limits(text, third)

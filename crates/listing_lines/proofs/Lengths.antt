@@ -1,6 +1,5 @@
 -- How long each line can be.
 use Prim.Native.Nat.{ℕ, _≤_}
-use mathlib.Core.List.{[], _∷_}
 use lib.ListN.{length}
 use Rattle.lines.specs.Lines.{text}
 use Rattle.lines.proofs.Theorems.{width, length-filled}
@@ -9,9 +8,9 @@ use Rattle.reliability.specs.declared.Figure.{Figure}
 use Rattle.plan.specs.declared.Cause.{Cause}
 use Rattle.listing_lines.specs.Entries.{sizesLine, figureLine, linkLine, limitsLine, refusedLine}
 
-pub length-sizes : (n m : ℕ) → length (sizesLine n m) ≤ 34
+pub length-sizes : (n m k : ℕ) → length (sizesLine n m k) ≤ 52
 unfolding width
-length-sizes n m = length-filled (n ∷ m ∷ []) (text "nodes 0 links 1\n")
+length-sizes n m k = length-filled _ (text "nodes 0 links 1 pieces 2\n")
 
 pub length-figure : (f : Figure) → length (figureLine f) ≤ 68
 unfolding width

@@ -21,8 +21,9 @@ importanceLimit = 20000
 
 -- ---- lines
 
-abbrev pub sizesLine : ℕ → ℕ → List ℕ
-sizesLine n m = filled (n ∷ m ∷ []) (text "nodes 0 links 1\n")
+-- nodes, links, and the pieces that the links make of the nodes
+abbrev pub sizesLine : ℕ → ℕ → ℕ → List ℕ
+sizesLine n m k = filled (n ∷ m ∷ k ∷ []) (text "nodes 0 links 1 pieces 2\n")
 
 abbrev pub figureLine : Figure → List ℕ
 figureLine f = filled (f .low ∷ f .high ∷ f .steps ∷ cond (f .finished) 1 0 ∷ []) (text "low 0 high 1 steps 2 finished 3\n")

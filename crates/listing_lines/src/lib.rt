@@ -16,11 +16,16 @@ pub const FIGURE_LIMIT: u64 = 100_000;
 pub const IMPORTANCE_LIMIT: u64 = 20_000;
 
 // Each of these functions returns the place behind what it has written.
-pub fn put_sizes(text: &mut [u8], n: u16, m: u16) -> usize
-    requires { ⌜ length (sizesLine n m) ≤ length (now text) ⌝ }
-    ensures { λ r. ⌜ Puts (now (text .entry)) 0 (sizesLine n m) (now (text .exit)) r ⌝ }
+pub fn put_sizes(text: &mut [u8], n: u16, m: u16, k: u32) -> usize
+    requires { ⌜ length (sizesLine n m k) ≤ length (now text) ⌝ }
+    ensures { λ r. ⌜ Puts (now (text .entry)) 0 (sizesLine n m k) (now (text .exit)) r ⌝ }
 {
-    lines::put_line(text, 0, b"nodes 0 links 1\n", &[n as u32, m as u32])
+    lines::put_line(
+        text,
+        0,
+        b"nodes 0 links 1 pieces 2\n",
+        &[n as u32, m as u32, k],
+    )
 }
 
 pub fn put_figure(text: &mut [u8], at: usize, f: Figure) -> usize
