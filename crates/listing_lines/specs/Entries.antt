@@ -21,7 +21,7 @@ importanceLimit = 20000
 
 -- ---- lines
 
--- nodes, links, and the pieces that the links make of the nodes
+-- nodes, links, and how many pieces the links leave the nodes in
 abbrev pub sizesLine : ℕ → ℕ → ℕ → List ℕ
 sizesLine n m k = filled (n ∷ m ∷ k ∷ []) (text "nodes 0 links 1 pieces 2\n")
 
