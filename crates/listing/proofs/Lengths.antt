@@ -1,23 +1,20 @@
 -- The lines of a plan's links one by one, and how long a listing can be.
 use Prim.Native.Nat.{ℕ, zero, suc, _+_, _-_, _*_, _≤_, _<_}
 use mathlib.Core.Path.{_≡_, ap, _∙_}
-use mathlib.Core.List.{List, [], _∷_, _++_}
+use mathlib.Core.List.{List, [], _++_}
 use native.Mathlib.Nat.{zero-add}
 use native.Mathlib.Omega.{arith}
 use lib.ListN.{length, length-append, drop}
 use lib.Seq.{length-sets, sets-eq}
-use Rattle.lines.specs.Lines.{Puts, text}
-use Rattle.lines.proofs.Theorems.{width, length-filled}
-use Rattle.reliability.specs.declared.Link.{Link}
-use Rattle.reliability.specs.declared.Figure.{Figure}
+use Rattle.lines.specs.Lines.{Puts}
 use Rattle.reliability.specs.Rule.{figure}
 use Rattle.reliability.specs.Comparisons.{importance}
-use Rattle.plan.specs.declared.Cause.{Cause}
 use Rattle.plan.specs.declared.Verdict.{Verdict}
 use Rattle.plan.specs.declared.Verdict.the-variants.{Accepted, Refused}
 use Rattle.plan.specs.Plans.{sizeN, sizeM, verdict, linkIn, planOf}
 use Rattle.plan.proofs.Verdicts.{accepted-means}
-use Rattle.listing.specs.Listings.{figureLimit, importanceLimit, sizesLine, figureLine, linkLine, lineOf, linkLines, limitsLine, refusedLine, listingBy, listing}
+use Rattle.listing_lines.proofs.Lengths.{length-sizes, length-figure, length-link, length-limits, length-refused}
+use Rattle.listing.specs.Listings.{figureLimit, importanceLimit, sizesLine, figureLine, lineOf, linkLines, limitsLine, listingBy, listing}
 
 -- ---- link by link
 
@@ -37,26 +34,6 @@ module _ (plan : List ℕ) (m i : ℕ) where
 
 -- ---- lengths
 
-length-sizes : (n m : ℕ) → length (sizesLine n m) ≤ 34
-unfolding width
-length-sizes n m = length-filled (n ∷ m ∷ []) (text "nodes 0 links 1\n")
-
-length-figure : (f : Figure) → length (figureLine f) ≤ 68
-unfolding width
-length-figure f = length-filled _ (text "low 0 high 1 steps 2 finished 3\n")
-
-length-link : (i : ℕ) (e : Link) (f : Figure) → length (linkLine i e f) ≤ 71
-unfolding width
-length-link i e f = length-filled _ (text "link 0 1 2 3 4 5\n")
-
-length-limits : length limitsLine ≤ 29
-unfolding width
-length-limits = length-filled _ (text "limits 0 1\n")
-
-length-refused : (c : Cause) → length (refusedLine c) ≤ 33
-unfolding width
-length-refused c = length-filled _ (text "refused 0 at 1\n")
-
 length-links : (plan : List ℕ) (i k : ℕ) → length (linkLines plan i k) ≤ 71 * k
 unfolding linkLines
 length-links plan i zero = omega arith
@@ -67,16 +44,17 @@ length-links plan i (suc k) =
 
 -- no listing has more bytes than this, so 8,192 hold every one
 abbrev pub most : ℕ
-most = 4675
+most = 4693
 
 module _ (plan : List ℕ) where
   pub length-listing : (v : Verdict) → verdict plan ≡ v → length (listingBy v plan) ≤ most
   length-listing Accepted e =
       let w = accepted-means plan .0 e in
       let f = figure (planOf plan) figureLimit in
-      let s = sizesLine (sizeN plan) (sizeM plan) in
+      let k : ℕ = 1 in
+      let s = sizesLine (sizeN plan) (sizeM plan) k in
       let l = linkLines plan 0 (sizeM plan) in
-      omega (arith, length-append (s ++ figureLine f ++ l) limitsLine, length-append (s ++ figureLine f) l, length-append s (figureLine f), length-sizes (sizeN plan) (sizeM plan), length-figure f, length-links plan 0 (sizeM plan), length-limits, w .links)
+      omega (arith, length-append (s ++ figureLine f ++ l) limitsLine, length-append (s ++ figureLine f) l, length-append s (figureLine f), length-sizes (sizeN plan) (sizeM plan) k, length-figure f, length-links plan 0 (sizeM plan), length-limits, w .links)
   length-listing (Refused c) e = omega (arith, length-refused c)
 
   listing-is : (v : Verdict) → verdict plan ≡ v → listing plan ≡ listingBy v plan

@@ -10,7 +10,7 @@ use Rattle.listing.proofs.listing.Tie as tie
 use Rattle.listing.proofs.listing.Reads as reads
 use Rattle.listing.proofs.listing.Lts as lts
 use Rattle.listing.proofs.put_plan.Reads as put-plan-reads
-use Rattle.listing.proofs.put_refusal.Reads as put-refusal-reads
+use Rattle.listing_lines.proofs.put_refusal.Reads as put-refusal-reads
 use Rattle.plan.proofs.verdict_of.Reads as verdict-of-reads
 
 verdict-of-requires : tie.Need-verdict-of-requires

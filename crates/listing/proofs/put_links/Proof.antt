@@ -15,7 +15,7 @@ use Rattle.listing.proofs.put_links.Statement.{statement}
 use Rattle.listing.proofs.put_links.Tie as tie
 use Rattle.listing.proofs.put_links.Reads as reads
 use Rattle.listing.proofs.put_links.Lts as lts
-use Rattle.listing.proofs.put_link.Reads as put-link-reads
+use Rattle.listing_lines.proofs.put_link.Reads as put-link-reads
 use Rattle.reader.proofs.sizes_of.Reads as sizes-of-reads
 
 abbrev Inv-loop : tie.InvT-loop

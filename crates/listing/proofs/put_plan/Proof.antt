@@ -1,5 +1,5 @@
 use Prim.Native.Nat.{ℕ, _+_, _≤_}
-use mathlib.Core.Path.{_≡_, refl, sym, ap, ap₂, _∙_}
+use mathlib.Core.Path.{_≡_, refl, sym, ap, _∙_}
 use mathlib.Core.List.{List, [], _++_, append-assoc, append-nil}
 use native.Mathlib.Omega.{arith}
 use lib.ListN.{length}
@@ -19,10 +19,10 @@ use Rattle.listing.proofs.put_plan.Tie as tie
 use Rattle.listing.proofs.put_plan.Reads as reads
 use Rattle.listing.proofs.put_plan.Lts as lts
 use Rattle.factoring.proofs.work.Reads as work-reads
-use Rattle.listing.proofs.put_figure.Reads as put-figure-reads
-use Rattle.listing.proofs.put_limits.Reads as put-limits-reads
+use Rattle.listing_lines.proofs.put_figure.Reads as put-figure-reads
+use Rattle.listing_lines.proofs.put_limits.Reads as put-limits-reads
 use Rattle.listing.proofs.put_links.Reads as put-links-reads
-use Rattle.listing.proofs.put_sizes.Reads as put-sizes-reads
+use Rattle.listing_lines.proofs.put_sizes.Reads as put-sizes-reads
 use Rattle.loading.proofs.network_of.Reads as network-of-reads
 use Rattle.reader.proofs.sizes_of.Reads as sizes-of-reads
 
@@ -47,7 +47,7 @@ work-requires c κs =
 
 -- the parts
 abbrev sizes : List ℕ → List ℕ
-sizes plan = sizesLine (sizeN plan) (sizeM plan)
+sizes plan = sizesLine (sizeN plan) (sizeM plan) 1
 
 abbrev pair : List ℕ → List ℕ
 pair plan = figureLine (figure (planOf plan) figureLimit)
@@ -61,35 +61,42 @@ later plan = links plan ++ limitsLine
 parted : (plan : List ℕ) → listingBy Accepted plan ≡ sizes plan ++ (pair plan ++ later plan)
 parted b = append-assoc (sizes b ++ pair b) (links b) limitsLine ∙ append-assoc (sizes b) (pair b) (later b)
 
-sizes-next : (c : tie.After-work) → let b = c .before .before .before .before .before .args .plan .now in let s = c .before .before .sizes-of .result in listingBy Accepted b ≡ sizesLine (s .n) (s .m) ++ (pair b ++ later b)
-sizes-next c =
-    let b = c .before .before .before .before .before .args .plan .now in
-    let e = c .before .before .sizes-of .ensures in
-    parted b ∙ ap (λ (s : List ℕ). s ++ (pair b ++ later b)) (sym (ap₂ sizesLine (e .0) (e .1)))
+-- where the figure is worked: the start before it, and the first line by the sizes that were read
+abbrev start : tie.After-work → tie.Start
+start c = c .before .before .before .before .before
 
-figure-next : (c : tie.After-work) → let b = c .before .before .before .before .before .args .plan .now in pair b ++ later b ≡ figureLine (c .work .result) ++ later b
+abbrev first : tie.After-work → List ℕ
+first c = let s = c .before .before .sizes-of .result in sizesLine (s .n) (s .m) 1
+
+sizes-next : (c : tie.After-work) → let b = start c .args .plan .now in listingBy Accepted b ≡ first c ++ (pair b ++ later b)
+sizes-next c =
+    let b = start c .args .plan .now in
+    let (n, m) = c .before .before .sizes-of .ensures in
+    let e : first c ≡ sizes b = cc in
+    parted b ∙ ap (λ (s : List ℕ). s ++ (pair b ++ later b)) (sym e)
+
+figure-next : (c : tie.After-work) → let b = start c .args .plan .now in pair b ++ later b ≡ figureLine (c .work .result) ++ later b
 figure-next c =
-    let b = c .before .before .before .before .before .args .plan .now in
+    let b = start c .args .plan .now in
     let worked : c .work .result ≡ figure (networkOf (c .before .network-of .result)) figureLimit = c .work .ensures in
     ap (λ (f : Figure). figureLine f ++ later b) (sym (worked ∙ ap (λ (g : Graph). figure g figureLimit) (c .before .network-of .ensures .0)))
 
-sized : (c : tie.After-put-sizes) → let a = c .before .before .before .before .before .before .before .args in Left (a .plan .now) (a .text .now) (c .put-sizes .last .0) (c .put-sizes .result) (pair (a .plan .now) ++ later (a .plan .now))
+sized : (c : tie.After-put-sizes) → let a = start (c .before .before) .args in Left (a .plan .now) (a .text .now) (c .put-sizes .last .0) (c .put-sizes .result) (pair (a .plan .now) ++ later (a .plan .now))
 sized c =
     let w = c .before .before in
-    let a = w .before .before .before .before .before .args in
-    let s = w .before .before .sizes-of .result in
-    goes-on (a .text .now) 0 _ _ _ _ (begun (a .text .now) 0 (listingBy Accepted (a .plan .now))) (sizesLine (s .n) (s .m)) _ (sizes-next w) (c .put-sizes .last .0) (c .put-sizes .result) (c .put-sizes .ensures)
+    let a = start w .args in
+    goes-on (a .text .now) 0 _ _ _ _ (begun (a .text .now) 0 (listingBy Accepted (a .plan .now))) (first w) _ (sizes-next w) (c .put-sizes .last .0) (c .put-sizes .result) (c .put-sizes .ensures)
 
-figured : (c : tie.After-put-figure) → let a = c .before .before .before .before .before .before .before .before .before .before .before .args in Left (a .plan .now) (a .text .now) (c .put-figure .last .0) (c .put-figure .result) (later (a .plan .now))
+figured : (c : tie.After-put-figure) → let a = start (c .before .before .before .before .before .before) .args in Left (a .plan .now) (a .text .now) (c .put-figure .last .0) (c .put-figure .result) (later (a .plan .now))
 figured c =
     let q = c .before .before .before .before in
     let w = q .before .before in
     goes-on _ _ _ _ _ _ (sized q) (figureLine (w .work .result)) _ (figure-next w) (c .put-figure .last .0) (c .put-figure .result) (c .put-figure .ensures)
 
-linked : (c : tie.After-put-links) → let a = c .before .before .before .before .before .before .before .before .before .before .before .before .before .before .before .args in Left (a .plan .now) (a .text .now) (c .put-links .last .0) (c .put-links .result) limitsLine
+linked : (c : tie.After-put-links) → let a = start (c .before .before .before .before .before .before .before .before .before .before) .args in Left (a .plan .now) (a .text .now) (c .put-links .last .0) (c .put-links .result) limitsLine
 linked c =
     let q = c .before .before .before .before in
-    let a = q .before .before .before .before .before .before .before .before .before .before .before .args in
+    let a = start (q .before .before .before .before .before .before) .args in
     goes-on _ _ _ _ _ _ (figured q) (links (a .plan .now)) limitsLine refl (c .put-links .last .0) (c .put-links .result) (c .put-links .ensures)
 
 returns : tie.Need-returns
@@ -100,28 +107,28 @@ returns c =
 
 put-sizes-requires : tie.Need-put-sizes-requires
 put-sizes-requires c κs =
-    let a = c .before .before .before .before .before .before .args in
-    let s = c .before .before .before .sizes-of .result in
-    let h = room (a .text .now) 0 _ _ _ _ (begun (a .text .now) 0 (listingBy Accepted (a .plan .now))) (sizesLine (s .n) (s .m)) _ (sizes-next (c .before)) (fits (c .before .before .before .before .before .before)) in
+    let w = c .before in
+    let a = start w .args in
+    let h = room (a .text .now) 0 _ _ _ _ (begun (a .text .now) 0 (listingBy Accepted (a .plan .now))) (first w) _ (sizes-next w) (fits (start w)) in
     omega (arith, h)
 
 put-figure-requires : tie.Need-put-figure-requires
 put-figure-requires c κs =
     let q = c .before .before .before in
     let w = q .before .before in
-    room _ _ _ _ _ _ (sized q) (figureLine (w .work .result)) _ (figure-next w) (fits (w .before .before .before .before .before))
+    room _ _ _ _ _ _ (sized q) (figureLine (w .work .result)) _ (figure-next w) (fits (start w))
 
 put-links-requires : tie.Need-put-links-requires
 put-links-requires c κs =
     let q = c .before .before .before in
-    let start = q .before .before .before .before .before .before .before .before .before .before .before in
-    (start .pre .0, room _ _ _ _ _ _ (figured q) (links (start .args .plan .now)) limitsLine refl (fits start))
+    let s = start (q .before .before .before .before .before .before) in
+    (s .pre .0, room _ _ _ _ _ _ (figured q) (links (s .args .plan .now)) limitsLine refl (fits s))
 
 put-limits-requires : tie.Need-put-limits-requires
 put-limits-requires c κs =
     let q = c .before .before .before in
-    let start = q .before .before .before .before .before .before .before .before .before .before .before .before .before .before .before in
-    room _ _ _ _ _ _ (linked q) limitsLine [] (sym (append-nil limitsLine)) (fits start)
+    let s = start (q .before .before .before .before .before .before .before .before .before .before) in
+    room _ _ _ _ _ _ (linked q) limitsLine [] (sym (append-nil limitsLine)) (fits s)
 
 same-length : tie.Need-same-length
 same-length c = search needs

@@ -7,17 +7,17 @@ use Rattle.reliability.specs.declared.Link.{Link}
 use Rattle.reliability.specs.declared.Figure.{Figure}
 use Rattle.reliability.specs.Comparisons.{importance}
 use Rattle.network.specs.Places.{networkOf, indexOf}
+use Rattle.plan.specs.Plans.{sizeM}
 use Rattle.plan.proofs.Verdicts.{accepted-means}
-use Rattle.reader.specs.Layout.{sizeM}
 use Rattle.loading.proofs.Stands.{stands-importance}
 use Rattle.network.proofs.Picks.{built-used}
-use Rattle.listing.specs.Listings.{importanceLimit, linkLine, lineOf}
+use Rattle.listing_lines.specs.Entries.{importanceLimit, linkLine, lineOf}
 use Rattle.lines.specs.Lines.{Puts}
 use borrow.Author.Needs.{needs}
-use Rattle.listing.proofs.put_link.Statement.{statement}
-use Rattle.listing.proofs.put_link.Tie as tie
-use Rattle.listing.proofs.put_link.Reads as reads
-use Rattle.listing.proofs.put_link.Lts as lts
+use Rattle.listing_lines.proofs.put_link.Statement.{statement}
+use Rattle.listing_lines.proofs.put_link.Tie as tie
+use Rattle.listing_lines.proofs.put_link.Reads as reads
+use Rattle.listing_lines.proofs.put_link.Lts as lts
 use Rattle.factoring.proofs.importance.Reads as importance-reads
 use Rattle.lines.proofs.put_line.Reads as put-line-reads
 use Rattle.plan.proofs.link_at.Reads as link-at-reads

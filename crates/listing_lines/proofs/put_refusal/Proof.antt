@@ -6,12 +6,12 @@ use lib.ListN.{length}
 use Rattle.plan.specs.declared.Cause.{Cause}
 use Rattle.plan.specs.Plans.{number, namedLink}
 use Rattle.lines.specs.Lines.{Puts, text, filled}
-use Rattle.listing.specs.Listings.{refusedLine}
+use Rattle.listing_lines.specs.Entries.{refusedLine}
 use borrow.Author.Needs.{needs}
-use Rattle.listing.proofs.put_refusal.Statement.{statement}
-use Rattle.listing.proofs.put_refusal.Tie as tie
-use Rattle.listing.proofs.put_refusal.Reads as reads
-use Rattle.listing.proofs.put_refusal.Lts as lts
+use Rattle.listing_lines.proofs.put_refusal.Statement.{statement}
+use Rattle.listing_lines.proofs.put_refusal.Tie as tie
+use Rattle.listing_lines.proofs.put_refusal.Reads as reads
+use Rattle.listing_lines.proofs.put_refusal.Lts as lts
 use Rattle.lines.proofs.put_line.Reads as put-line-reads
 use Rattle.plan.proofs.named_link.Reads as named-link-reads
 use Rattle.plan.proofs.number_of.Reads as number-of-reads

@@ -6,12 +6,12 @@ use lib.ListN.{length}
 use Rattle.reliability.specs.declared.Figure.{Figure}
 use Rattle.factoring.proofs.Marks.{as-byte}
 use Rattle.lines.specs.Lines.{Puts, text, filled}
-use Rattle.listing.specs.Listings.{figureLine}
+use Rattle.listing_lines.specs.Entries.{figureLine}
 use borrow.Author.Needs.{needs}
-use Rattle.listing.proofs.put_figure.Statement.{statement}
-use Rattle.listing.proofs.put_figure.Tie as tie
-use Rattle.listing.proofs.put_figure.Reads as reads
-use Rattle.listing.proofs.put_figure.Lts as lts
+use Rattle.listing_lines.proofs.put_figure.Statement.{statement}
+use Rattle.listing_lines.proofs.put_figure.Tie as tie
+use Rattle.listing_lines.proofs.put_figure.Reads as reads
+use Rattle.listing_lines.proofs.put_figure.Lts as lts
 use Rattle.lines.proofs.put_line.Reads as put-line-reads
 
 line : (f : Figure) → filled (f .low ∷ f .high ∷ f .steps ∷ boolByte (f .finished) ∷ []) (text "low 0 high 1 steps 2 finished 3\n") ≡ figureLine f
