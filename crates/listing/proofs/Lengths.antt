@@ -7,6 +7,7 @@ use native.Mathlib.Omega.{arith}
 use lib.ListN.{length, length-append, drop}
 use lib.Seq.{length-sets, sets-eq}
 use Rattle.lines.specs.Lines.{Puts}
+use Rattle.reliability.specs.Networks.{piecesOf}
 use Rattle.reliability.specs.Rule.{figure}
 use Rattle.reliability.specs.Comparisons.{importance}
 use Rattle.plan.specs.declared.Verdict.{Verdict}
@@ -51,7 +52,7 @@ module _ (plan : List ℕ) where
   length-listing Accepted e =
       let w = accepted-means plan .0 e in
       let f = figure (planOf plan) figureLimit in
-      let k : ℕ = 1 in
+      let k = piecesOf (planOf plan) in
       let s = sizesLine (sizeN plan) (sizeM plan) k in
       let l = linkLines plan 0 (sizeM plan) in
       omega (arith, length-append (s ++ figureLine f ++ l) limitsLine, length-append (s ++ figureLine f) l, length-append s (figureLine f), length-sizes (sizeN plan) (sizeM plan) k, length-figure f, length-links plan 0 (sizeM plan), length-limits, w .links)

@@ -3,6 +3,7 @@ use Prim.Native.Nat.{ℕ, zero, suc, _+_, _*_}
 use mathlib.Core.Path.{_≡_}
 use mathlib.Core.List.{List, [], _++_}
 use lib.ListN.{length, take, drop}
+use Rattle.reliability.specs.Networks.{piecesOf}
 use Rattle.reliability.specs.Rule.{figure}
 use Rattle.plan.specs.declared.Verdict.{Verdict}
 use Rattle.plan.specs.declared.Verdict.the-variants.{Accepted, Refused}
@@ -18,9 +19,8 @@ linkLines plan i (suc k) = lineOf plan i ++ linkLines plan (suc i) k
 
 -- ---- the listing
 
--- 1: to be replaced by the number of pieces
 abbrev pub listingBy : Verdict → List ℕ → List ℕ
-listingBy Accepted plan = sizesLine (sizeN plan) (sizeM plan) 1 ++ figureLine (figure (planOf plan) figureLimit) ++ linkLines plan 0 (sizeM plan) ++ limitsLine
+listingBy Accepted plan = sizesLine (sizeN plan) (sizeM plan) (piecesOf (planOf plan)) ++ figureLine (figure (planOf plan) figureLimit) ++ linkLines plan 0 (sizeM plan) ++ limitsLine
 listingBy (Refused c) plan = refusedLine c
 
 unfoldable pub listing : List ℕ → List ℕ

@@ -5,7 +5,7 @@ use native.Mathlib.Omega.{arith}
 use lib.ListN.{length}
 use lib.Seq.{sets}
 use Rattle.reliability.specs.declared.Figure.{Figure}
-use Rattle.reliability.specs.Networks.{Network as Graph}
+use Rattle.reliability.specs.Networks.{Network as Graph, piecesOf}
 use Rattle.reliability.specs.Rule.{figure}
 use Rattle.network.specs.Places.{networkOf}
 use Rattle.plan.specs.declared.Verdict.the-variants.{Accepted}
@@ -25,6 +25,7 @@ use Rattle.listing.proofs.put_links.Reads as put-links-reads
 use Rattle.listing_lines.proofs.put_sizes.Reads as put-sizes-reads
 use Rattle.loading.proofs.network_of.Reads as network-of-reads
 use Rattle.reader.proofs.sizes_of.Reads as sizes-of-reads
+use Rattle.steps.proofs.pieces.Reads as pieces-reads
 
 -- what remains of the listing of a plan
 abbrev Left : List ℕ → List ℕ → List ℕ → ℕ → List ℕ → Type 0
@@ -41,13 +42,15 @@ sizes-of-requires c κs = let w = accepted-means (c .before .before .args .plan 
 network-of-requires : tie.Need-network-of-requires
 network-of-requires c κs = search needs
 
+pieces-requires : tie.Need-pieces-requires
+pieces-requires c κs = c .network-of .ensures .2
+
 work-requires : tie.Need-work-requires
-work-requires c κs =
-    (c .network-of .ensures .2, omega arith)
+work-requires c κs = (c .before .network-of .ensures .2, omega arith)
 
 -- the parts
 abbrev sizes : List ℕ → List ℕ
-sizes plan = sizesLine (sizeN plan) (sizeM plan) 1
+sizes plan = sizesLine (sizeN plan) (sizeM plan) (piecesOf (planOf plan))
 
 abbrev pair : List ℕ → List ℕ
 pair plan = figureLine (figure (planOf plan) figureLimit)
@@ -61,25 +64,26 @@ later plan = links plan ++ limitsLine
 parted : (plan : List ℕ) → listingBy Accepted plan ≡ sizes plan ++ (pair plan ++ later plan)
 parted b = append-assoc (sizes b ++ pair b) (links b) limitsLine ∙ append-assoc (sizes b) (pair b) (later b)
 
--- where the figure is worked: the start before it, and the first line by the sizes that were read
+-- where the figure is worked: the start before it, and the first line by what was read and counted
 abbrev start : tie.After-work → tie.Start
-start c = c .before .before .before .before .before
+start c = c .before .before .before .before .before .before
 
 abbrev first : tie.After-work → List ℕ
-first c = let s = c .before .before .sizes-of .result in sizesLine (s .n) (s .m) 1
+first c = let s = c .before .before .before .sizes-of .result in sizesLine (s .n) (s .m) (c .before .pieces .result)
 
 sizes-next : (c : tie.After-work) → let b = start c .args .plan .now in listingBy Accepted b ≡ first c ++ (pair b ++ later b)
 sizes-next c =
     let b = start c .args .plan .now in
-    let (n, m) = c .before .before .sizes-of .ensures in
+    let (n, m) = c .before .before .before .sizes-of .ensures in
+    let k : c .before .pieces .result ≡ piecesOf (planOf b) = c .before .pieces .ensures ∙ ap piecesOf (c .before .before .network-of .ensures .0) in
     let e : first c ≡ sizes b = cc in
     parted b ∙ ap (λ (s : List ℕ). s ++ (pair b ++ later b)) (sym e)
 
 figure-next : (c : tie.After-work) → let b = start c .args .plan .now in pair b ++ later b ≡ figureLine (c .work .result) ++ later b
 figure-next c =
     let b = start c .args .plan .now in
-    let worked : c .work .result ≡ figure (networkOf (c .before .network-of .result)) figureLimit = c .work .ensures in
-    ap (λ (f : Figure). figureLine f ++ later b) (sym (worked ∙ ap (λ (g : Graph). figure g figureLimit) (c .before .network-of .ensures .0)))
+    let worked : c .work .result ≡ figure (networkOf (c .before .before .network-of .result)) figureLimit = c .work .ensures in
+    ap (λ (f : Figure). figureLine f ++ later b) (sym (worked ∙ ap (λ (g : Graph). figure g figureLimit) (c .before .before .network-of .ensures .0)))
 
 sized : (c : tie.After-put-sizes) → let a = start (c .before .before) .args in Left (a .plan .now) (a .text .now) (c .put-sizes .last .0) (c .put-sizes .result) (pair (a .plan .now) ++ later (a .plan .now))
 sized c =
@@ -139,6 +143,7 @@ put-plan-spec =
     (tie.spec
     sizes-of-requires
     network-of-requires
+    pieces-requires
     work-requires
     put-sizes-requires
     put-figure-requires
