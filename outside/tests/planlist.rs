@@ -354,7 +354,8 @@ fn a_chance_exactly_in_one_piece() {
     let mut random = Random::new(57);
     let (mut met, mut small) = ([0; 3], 0);
     for _ in 0..120 {
-        let mut plan = Plan::random(&mut random, 9, 10);
+        let (nodes, links) = (1 + random.below(8), random.below(12));
+        let mut plan = Plan::random_of(&mut random, nodes as u8, links);
         for value in [1, S / 2, S] {
             for link in &mut plan.links {
                 link.value = value;
@@ -370,7 +371,7 @@ fn a_chance_exactly_in_one_piece() {
             met[pieces.min(3) as usize - 1] += 1;
         }
     }
-    assert!(met.iter().all(|count| *count > 60), "too few: {met:?}");
+    assert!(met.iter().all(|count| *count > 30), "too few: {met:?}");
     assert!(small > 20, "too few with a low of 0: {small}");
 }
 
