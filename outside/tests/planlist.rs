@@ -279,13 +279,15 @@ fn pieces_whose_nodes_interleave() {
     }
 }
 
-/// 63 links run side by side; the one at the place joins a third node to their two, the highest.
+/// 63 links run side by side; the one at the place joins a third node to their two, the next or the highest.
 #[test]
 fn a_link_joins_at_each_place() {
     for place in 0..64 {
-        let mut links = vec![[0, 1]; 64];
-        links[place] = if place % 2 == 0 { [1, 31] } else { [31, 1] };
-        hold_pieces(&Plan::alike(32, S, &links), 32 - 2);
+        for ends in [[1, 2], [31, 1]] {
+            let mut links = vec![[0, 1]; 64];
+            links[place] = ends;
+            hold_pieces(&Plan::alike(32, S, &links), 32 - 2);
+        }
     }
 }
 
