@@ -332,20 +332,25 @@ fn in_pieces(random: &mut Random, nodes: u8, pieces: usize, more: usize) -> Plan
     plan
 }
 
-/// Every number of pieces at every number of nodes; a fifth of the plans have no more links than they need.
+/// Every number of pieces at every number of nodes; a fifth of the plans have no more links than they need. There is no chance exactly
+/// where the links of value above 0 leave more than one piece.
 #[test]
 fn random_plans_in_known_numbers_of_pieces() {
     let mut random = Random::new(56);
-    let mut by_zeros = 0;
+    let (mut worthless, mut by_zeros) = (0, 0);
     for nodes in 1..=32 {
         for pieces in 1..=nodes {
             let more = usize::from(nodes + pieces) % 5;
             let mut plan = in_pieces(&mut random, nodes, pieces.into(), more);
-            hold_pieces(&plan, pieces.into());
+            let figure = hold_pieces(&plan, pieces.into());
             plan.links.retain(|link| link.value > 0);
-            by_zeros += usize::from(outside::pieces::pieces(&plan) > pieces.into());
+            let left = outside::pieces::pieces(&plan);
+            assert_eq!(figure.starts_with("low 0 high 0 "), left > 1, "{plan:?}");
+            worthless += usize::from(pieces == 1 && left > 1);
+            by_zeros += usize::from(left > pieces.into());
         }
     }
+    assert!(worthless > 10, "in one piece without a chance: {worthless}");
     assert!(by_zeros > 50, "joined by links of value 0: {by_zeros}");
 }
 
