@@ -150,8 +150,8 @@ fn path_through(nodes: &[u8]) -> Vec<[u8; 2]> {
     nodes.windows(2).map(|pair| [pair[0], pair[1]]).collect()
 }
 
-/// Of a path through 32 nodes the links are taken away one by one: from its end, from its start, in any order. It runs up, down, and
-/// through the nodes in any order.
+/// Of a path through 32 nodes the links are taken away one by one: from its end, from its start, in any order. It runs up, down,
+/// and through the nodes in any order.
 #[test]
 fn every_number_of_pieces_at_32_nodes() {
     let mut random = Random::new(54);
@@ -332,8 +332,8 @@ fn in_pieces(random: &mut Random, nodes: u8, pieces: usize, more: usize) -> Plan
     plan
 }
 
-/// Every number of pieces at every number of nodes; a fifth of the plans have no more links than they need. There is no chance exactly
-/// where the links of value above 0 leave more than one piece.
+/// Every number of pieces at every number of nodes; a fifth of the plans have no more links than they need. There is no chance
+/// exactly where the links of value above 0 leave more than one piece.
 #[test]
 fn random_plans_in_known_numbers_of_pieces() {
     let mut random = Random::new(56);
@@ -354,7 +354,7 @@ fn random_plans_in_known_numbers_of_pieces() {
     assert!(by_zeros > 50, "joined by links of value 0: {by_zeros}");
 }
 
-/// Random plans of few links, all of one value above 0: the high is above 0 exactly in one piece, though the low may be 0 there too.
+/// Random plans of few links, all of one value above 0: the high is above 0 exactly in one piece, though the low may be 0 there.
 /// With values of S, low and high are S in one piece.
 #[test]
 fn a_chance_exactly_in_one_piece() {
