@@ -12,9 +12,9 @@ pub struct Place {
     pub file: Option<String>,
 }
 
-/// A piece of a document.
+/// A part of a document.
 #[derive(Debug)]
-pub enum Piece {
+pub enum Part {
     /// Words in backticks, and where they start.
     Quoted(usize, String),
     /// A place in parentheses.
@@ -50,37 +50,37 @@ fn place(inner: &str, crates: &[String]) -> Option<Place> {
     })
 }
 
-/// The pieces of a text. Parentheses that hold no place are text, and what is quoted in them is a piece of its own.
-pub fn pieces(text: &str, crates: &[String]) -> Vec<Piece> {
+/// The parts of a text. Parentheses that hold no place are text, and what is quoted in them is a part of its own.
+pub fn parts(text: &str, crates: &[String]) -> Vec<Part> {
     let mut all = Vec::new();
     let mut at = 0;
     let mut open = String::new();
     while let Some(c) = text[at..].chars().next() {
         let rest = &text[at + c.len_utf8()..];
-        let (piece, length) = match c {
+        let (part, length) = match c {
             '`' if rest.contains('`') => {
                 let end = rest.find('`').unwrap();
-                let quoted = Piece::Quoted(at, rest[..end].to_owned());
+                let quoted = Part::Quoted(at, rest[..end].to_owned());
                 (Some(quoted), end + 2)
             }
             '(' => {
                 let end = rest.find(')').unwrap_or(0);
                 let found = place(&rest[..end], crates);
                 let length = if found.is_some() { end + 2 } else { 1 };
-                (found.map(Piece::At), length)
+                (found.map(Part::At), length)
             }
             _ => (None, c.len_utf8()),
         };
-        match piece {
-            Some(piece) => {
-                all.push(Piece::Text(std::mem::take(&mut open)));
-                all.push(piece);
+        match part {
+            Some(part) => {
+                all.push(Part::Text(std::mem::take(&mut open)));
+                all.push(part);
             }
             None => open.push(c),
         }
         at += length;
     }
-    all.push(Piece::Text(open));
+    all.push(Part::Text(open));
     all
 }
 

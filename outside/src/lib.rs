@@ -8,6 +8,7 @@ pub mod desk;
 pub mod library;
 pub mod listing;
 pub mod names;
+pub mod pieces;
 pub mod plans;
 pub mod programs;
 pub mod random;

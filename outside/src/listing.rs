@@ -1,6 +1,7 @@
-//! The listing of a plan, made of what the calls answer, and the program that writes it.
+//! The listing of a plan, made of its number of pieces and of what the calls answer, and the program that writes it.
 
 use crate::calls::{read, Call, Outcome};
+use crate::pieces::pieces;
 use crate::repository::path;
 use crate::rule::Answer;
 use std::io::{ErrorKind, Write};
@@ -22,8 +23,8 @@ pub fn text(plan: &[u8], asked: impl Fn(&Call) -> Outcome) -> String {
         Ok(answer) => answer.unwrap(),
     };
     let data = read(plan).unwrap();
-    let (nodes, links) = (data.nodes, data.links.len());
-    let mut text = format!("nodes {nodes} links {links}\n{figure}\n");
+    let (nodes, links, pieces) = (data.nodes, data.links.len(), pieces(&data));
+    let mut text = format!("nodes {nodes} links {links} pieces {pieces}\n{figure}\n");
     for (i, link) in data.links.iter().enumerate() {
         let (place, limit) = (i as u64, IMPORTANCE_LIMIT);
         let importance = asked(&Call::Importance { plan, place, limit });
@@ -45,9 +46,9 @@ pub fn by_the_calls(plan: &[u8]) -> String {
     text(plan, crate::desk::answered)
 }
 
-/// What `planlist` writes when the pieces come in through its standard input, one after the other. It may have stopped
+/// What `planlist` writes when the parts come in through its standard input, one after the other. It may have stopped
 /// reading before the last.
-pub fn written(pieces: &[&[u8]]) -> String {
+pub fn written(parts: &[&[u8]]) -> String {
     let program = path("target/bin/planlist");
     let missing = "target/bin/planlist is missing: rt check planlist writes it";
     assert!(program.exists(), "{missing}");
@@ -55,11 +56,11 @@ pub fn written(pieces: &[&[u8]]) -> String {
     command.stdin(Stdio::piped()).stdout(Stdio::piped());
     let mut run = command.stderr(Stdio::piped()).spawn().unwrap();
     let mut input = run.stdin.take().unwrap();
-    for (i, piece) in pieces.iter().enumerate() {
+    for (i, part) in parts.iter().enumerate() {
         if i > 0 {
             sleep(Duration::from_millis(20));
         }
-        match input.write_all(piece).and_then(|()| input.flush()) {
+        match input.write_all(part).and_then(|()| input.flush()) {
             Err(error) if error.kind() != ErrorKind::BrokenPipe => panic!("{error}"),
             _ => (),
         }

@@ -1,7 +1,7 @@
 //! The documents: each command in them is run, and what it writes is what stands below it; each file in them exists, and each
 //! name is declared where they say so.
 
-use outside::citations::{is_a_file, pieces, Names, Piece, Place};
+use outside::citations::{is_a_file, parts, Names, Part, Place};
 use outside::names::{edits, files, in_a_name, section_of_edits};
 use outside::repository::{bytes, path};
 use std::process::Command;
@@ -100,16 +100,16 @@ fn wrong_apart(word: &str, names: &Names) -> Option<String> {
 fn wrong_saying(cell: &str, names: &Names) -> Vec<String> {
     let mut wrong = Vec::new();
     let mut open: Vec<String> = Vec::new();
-    for piece in pieces(cell, &names.crates) {
-        match piece {
-            Piece::Quoted(_, word) => open.push(word),
-            Piece::At(place) => {
+    for part in parts(cell, &names.crates) {
+        match part {
+            Part::Quoted(_, word) => open.push(word),
+            Part::At(place) => {
                 let held = open
                     .drain(..)
                     .filter(|word| !is_path(word) && !word.contains(' '));
                 wrong.extend(held.filter_map(|word| names.wrong(&word, &place, false)));
             }
-            Piece::Text(_) => (),
+            Part::Text(_) => (),
         }
     }
     wrong.extend(open.iter().filter_map(|word| wrong_apart(word, names)));
@@ -120,10 +120,10 @@ fn wrong_saying(cell: &str, names: &Names) -> Vec<String> {
 fn wrong_edits(cell: &str, names: &Names) -> Vec<String> {
     let mut wrong = Vec::new();
     let mut open: Vec<String> = Vec::new();
-    for piece in pieces(cell, &names.crates) {
-        match piece {
-            Piece::Quoted(_, word) => open.push(word),
-            Piece::At(Place { crates, file: None }) => {
+    for part in parts(cell, &names.crates) {
+        match part {
+            Part::Quoted(_, word) => open.push(word),
+            Part::At(Place { crates, file: None }) => {
                 for (name, of) in open.iter().flat_map(|e| crates.iter().map(move |c| (e, c))) {
                     if !names.is_edit(name, of) {
                         wrong.push(format!("there is no crates/{of}/must-fail/{name}.edit"));
@@ -131,9 +131,9 @@ fn wrong_edits(cell: &str, names: &Names) -> Vec<String> {
                 }
                 open.clear();
             }
-            Piece::At(place) => wrong.push(format!("an edit has no file: {place:?}")),
-            Piece::Text(text) if ["", " ", ", "].contains(&text.as_str()) => (),
-            Piece::Text(text) => wrong.push(format!("neither an edit nor a crate: '{text}'")),
+            Part::At(place) => wrong.push(format!("an edit has no file: {place:?}")),
+            Part::Text(text) if ["", " ", ", "].contains(&text.as_str()) => (),
+            Part::Text(text) => wrong.push(format!("neither an edit nor a crate: '{text}'")),
         }
     }
     wrong.extend(
@@ -224,17 +224,17 @@ fn prose(text: &str) -> String {
 }
 
 /// The place that stands behind a list of names, in parentheses or as the file that they are in.
-fn place_behind(pieces: &[Piece]) -> Option<Place> {
-    match pieces {
-        [Piece::Text(space), Piece::At(place), ..] if space == " " => Some(place.clone()),
-        [Piece::Text(within), Piece::Quoted(_, file), ..] if within == " in " => {
+fn place_behind(parts: &[Part]) -> Option<Place> {
+    match parts {
+        [Part::Text(space), Part::At(place), ..] if space == " " => Some(place.clone()),
+        [Part::Text(within), Part::Quoted(_, file), ..] if within == " in " => {
             let (name, file) = file.strip_prefix("crates/")?.split_once('/')?;
             Some(Place {
                 crates: vec![name.into()],
                 file: Some(file.into()),
             })
         }
-        [Piece::Text(comma), Piece::Quoted(..), rest @ ..]
+        [Part::Text(comma), Part::Quoted(..), rest @ ..]
             if [", ", " and ", ", and "].contains(&comma.as_str()) =>
         {
             place_behind(rest)
@@ -248,10 +248,10 @@ fn place_behind(pieces: &[Piece]) -> Option<Place> {
 fn wrong_names(document: &str, names: &Names) -> Vec<String> {
     let text = text_of(document);
     let prose = prose(&text);
-    let all = pieces(&prose, &names.crates);
+    let all = parts(&prose, &names.crates);
     let mut wrong = Vec::new();
-    for (i, piece) in all.iter().enumerate() {
-        let Piece::Quoted(at, word) = piece else {
+    for (i, part) in all.iter().enumerate() {
+        let Part::Quoted(at, word) = part else {
             continue;
         };
         let found = match place_behind(&all[i + 1..]) {

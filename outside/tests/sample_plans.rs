@@ -1,6 +1,6 @@
 //! The sample plans: each text and its bytes, and the script that makes the one of the other.
 
-use outside::calls::{held, Call};
+use outside::calls::{held, read, Call};
 use outside::plans::{Link, Plan, LENGTH};
 use outside::repository::{bytes, path, plan, plans_with};
 use std::fs;
@@ -50,7 +50,7 @@ fn make(folder: &Path) -> Output {
 fn each_text_has_its_bytes() {
     let names = plans_with("txt");
     assert_eq!(names, plans_with("plan"));
-    assert!(names.len() >= 6, "too few: {names:?}");
+    assert!(names.len() >= 8, "too few: {names:?}");
     for name in names {
         let text = String::from_utf8(bytes(&format!("plans/{name}.txt"))).unwrap();
         assert_eq!(plan(&name), meant(&text).bytes(), "{name}");
@@ -63,6 +63,24 @@ fn each_is_accepted() {
         let file = &plan(&name);
         assert_eq!(held(&Call::Check { plan: file }, 0), Ok(None), "{name}");
     }
+}
+
+/// The plans of the valley are alike but for the crossings, which are the last two links.
+#[test]
+fn the_valley_with_and_without_crossings() {
+    let both = read(&plan("two-crossings")).unwrap();
+    let with = |values: &[u32]| {
+        let mut valley = both.clone();
+        valley.links.truncate(22 + values.len());
+        for (link, value) in valley.links[22..].iter_mut().zip(values) {
+            link.value = *value;
+        }
+        valley.bytes()
+    };
+    let first = both.links[22].value;
+    assert_eq!(plan("one-crossing"), with(&[first]));
+    assert_eq!(plan("no-crossing"), with(&[]));
+    assert_eq!(plan("worthless-crossings"), with(&[0, 0]));
 }
 
 #[test]
