@@ -25,6 +25,9 @@ rows =
     row listed "nodes 2 links 2 pieces 1\nlow 980000000 high 980000000 steps 0 finished 1\nlink 0 0 1 900000000 200000000 200000000\nlink 1 0 1 800000000 100000000 100000000\nlimits 100000 20000\n"  -- document 01's
     ∷ row (1 ∷ 0 ∷ 0 ∷ 0 ∷ []) "nodes 1 links 0 pieces 1\nlow 1000000000 high 1000000000 steps 0 finished 1\nlimits 100000 20000\n"  -- P1
     ∷ row (1 ∷ 0 ∷ 1 ∷ 0 ∷ 0 ∷ 0 ∷ 0 ∷ 0 ∷ 0 ∷ 0 ∷ []) "nodes 1 links 1 pieces 1\nlow 1000000000 high 1000000000 steps 0 finished 1\nlink 0 0 0 0 0 0\nlimits 100000 20000\n"  -- P3
+    ∷ row (2 ∷ 0 ∷ 0 ∷ 0 ∷ []) "nodes 2 links 0 pieces 2\nlow 0 high 0 steps 0 finished 1\nlimits 100000 20000\n"  -- P2
+    ∷ row (2 ∷ 0 ∷ 1 ∷ 0 ∷ 0 ∷ 1 ∷ 0 ∷ 0 ∷ 0 ∷ 0 ∷ []) "nodes 2 links 1 pieces 1\nlow 0 high 0 steps 0 finished 1\nlink 0 0 1 0 1000000000 1000000000\nlimits 100000 20000\n"  -- a link of value 0
+    ∷ row (2 ∷ 0 ∷ 1 ∷ 0 ∷ 1 ∷ 1 ∷ 0 ∷ 0 ∷ 0 ∷ 0 ∷ []) "nodes 2 links 1 pieces 2\nlow 0 high 0 steps 0 finished 1\nlink 0 1 1 0 0 0\nlimits 100000 20000\n"  -- a loop
     ∷ row [] "refused 1 at 0\n"
     ∷ row (2 ∷ 0 ∷ 2 ∷ 0 ∷ 0 ∷ 1 ∷ 0 ∷ 2 ∷ 0 ∷ 0 ∷ 0 ∷ 0 ∷ 0 ∷ 0 ∷ 0 ∷ 0 ∷ []) "refused 5 at 1\n"
     ∷ []

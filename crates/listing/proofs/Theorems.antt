@@ -10,16 +10,17 @@ use lib.ListN.{length, getD, take}
 use lib.Seq.{take-all, length-take-le, getD-take}
 use borrow.Author.Tests.{le-ltb, ltb-false, ne-eqb}
 use Rattle.reliability.specs.declared.Figure.{Figure}
-use Rattle.reliability.specs.Networks.{Network, linkAt}
-use Rattle.reliability.specs.Rule.{isLoop}
+use Rattle.reliability.specs.Networks.{Network, linkAt, piecesOf}
+use Rattle.reliability.specs.Rule.{isLoop, bounded, figure}
 use Rattle.reliability.specs.Comparisons.{importance}
+use Rattle.reliability.proofs.Separate.{separate-figure}
 use Rattle.reliability.proofs.Comparisons.{importance-width-of-equal}
 use Rattle.plan.specs.declared.Cause.the-variants.{Short, Nodes, Links, Length}
 use Rattle.plan.specs.declared.Verdict.{Verdict}
 use Rattle.plan.specs.declared.Verdict.the-variants.{Accepted, Refused}
 use Rattle.plan.specs.Plans.{sizeN, sizeM, refusedIf, linksVerdict, verdict, planOf}
 use Rattle.plan.proofs.Accepted.{plan-valid, plan-equal, plan-links, plan-nodes}
-use Rattle.listing.specs.Listings.{importanceLimit, listingBy, listing, importanceWidth}
+use Rattle.listing.specs.Listings.{figureLimit, importanceLimit, listingBy, listing, importanceWidth}
 
 -- ---- an input longer than any plan
 
@@ -92,3 +93,9 @@ module _ (plan : List ℕ) (accepted : verdict plan ≡ Accepted) (i : ℕ) (pla
       let present : i < length (g .links) = omega (arith, place, plan-links plan) in
       let w = importance-width-of-equal g (plan-valid plan accepted) i present importanceLimit (plan-equal plan) done in
       omega (arith, w, plan-links plan, plan-nodes plan, kept-at-most (isLoop (linkAt g i)) (length (g .nodes)))
+
+-- ---- several pieces
+
+-- the figure of a plan that lies in several pieces is 0, finished without a split
+pub listed-separate : (plan : List ℕ) → verdict plan ≡ Accepted → 1 < piecesOf (planOf plan) → figure (planOf plan) figureLimit ≡ bounded (λ d. 0) 0 true
+listed-separate plan accepted several = sym (separate-figure (planOf plan) (plan-valid plan accepted) several figureLimit)

@@ -12,6 +12,7 @@ pub mod Reductions
 pub mod Remainders
 pub mod Enclosure
 pub mod Unrolled
+pub mod Separate
 pub mod Weights
 pub mod Promises
 pub mod Theorems

@@ -1,17 +1,18 @@
 -- What the number of pieces means.
-use Prim.Native.Nat.{ℕ, suc, _+_, _≤_, _<_}
-use mathlib.Core.Path.{_≡_, refl, sym, ap, _∙_}
+use Prim.Native.Nat.{ℕ, zero, suc, _+_, min, max, _≤_, _<_}
+use mathlib.Core.Path.{_≡_, refl, sym, ap, ap₂, fun-ext, _∙_}
 use mathlib.Core.List.{List, [], _∷_, map, List·Memᴰ, List·Memᴰ·head, List·Memᴰ·tail, List·Memᴰ·not-nil, List·Memᴰ·cases-cons}
 use mathlib.Core.Bool.{Bool, true, false, cond, not, _&&_, true≢false}
 use mathlib.Core.Logic.{_↔_, ⊎-elim}
 use native.Mathlib.Nat.{not-suc-le-zero}
 use native.Mathlib.Omega.{arith}
 use lib.Dec.{eqb}
-use lib.ListN.{length}
+use lib.ListN.{length, getD}
 use borrow.Author.Tests.{eqb-true, eqb-false, eq-eqb, ne-eqb, not-true}
 use Rattle.rounding.specs.Rounding.{S}
 use Rattle.reliability.specs.declared.Link.{Link}
-use Rattle.reliability.specs.Networks.{Network, linked, Ends, ends, merge, label, every, filter, connected, Path, here, together, lastOfEach, pieces, piecesOf, Apart, OneOfEach}
+use Rattle.reliability.specs.Networks.{Network, linked, linkAt, Ends, ends, merge, label, every, filter, connected, Path, here, together, lastOfEach, pieces, piecesOf, Apart, OneOfEach}
+use Rattle.reliability.specs.Rule.{isLoop, deleteAt, deleted}
 use Rattle.reliability.proofs.Lists.{by-eqb, every-at, filter-mem, mem-filter}
 use Rattle.reliability.proofs.Connection.{join, label-means}
 
@@ -202,3 +203,32 @@ module _ (t : List Ends) where
       found : (b : Bool) → (b ≡ true → ⊥) → b ≡ false
       found true n = absurd (n refl)
       found false n = refl
+
+-- ---- loops and values
+
+-- a network of the same nodes and ends has as many pieces, whatever its links' values are
+pub values-play-no-part : (g h : Network) → g .nodes ≡ h .nodes → map ends (g .links) ≡ map ends (h .links) → piecesOf g ≡ piecesOf h
+values-play-no-part g h e f = ap₂ pieces e f
+
+-- a loop merges nothing
+loop-merges : (x z : ℕ) → merge x x z ≡ z
+unfolding merge
+loop-merges x z = by-eqb (λ b. cond b (min x x) z ≡ z) z (max x x) (λ e. omega arith) (λ n. refl)
+
+loop-labels : (es : List Link) (i : ℕ) (z : Link) → isLoop (getD es i z) ≡ true → label (map ends (deleteAt i es)) ≡ label (map ends es)
+unfolding deleteAt label
+loop-labels [] i z h = refl
+loop-labels (e ∷ es) zero z h =
+    let f = label (map ends es) in
+    fun-ext (λ v. sym (ap (λ (b : ℕ). merge (f (e .a)) (f b) (f v)) (sym (eqb-true (e .a) (e .b) h)) ∙ loop-merges (f (e .a)) (f v)))
+loop-labels (e ∷ es) (suc i) z h = ap {B = ℕ → ℕ} (λ (f : ℕ → ℕ). λ v. merge (f (e .a)) (f (e .b)) (f v)) (loop-labels es i z h)
+
+pieces-by-labels : (vs : List ℕ) (t s : List Ends) → label t ≡ label s → lastOfEach vs t ≡ lastOfEach vs s
+unfolding lastOfEach
+pieces-by-labels [] t s e = refl
+pieces-by-labels (v ∷ vs) t s e =
+    ap₂ (λ (f : ℕ → ℕ) (r : List ℕ). elim (every (λ u. not (eqb (f u) (f v))) vs) as (λ c. List ℕ) [ true ↦ v ∷ r | false ↦ r ]) e (pieces-by-labels vs t s e)
+
+-- a network has as many pieces without a loop
+pub loops-join-nothing : (g : Network) (i : ℕ) → isLoop (linkAt g i) ≡ true → piecesOf (deleted i g) ≡ piecesOf g
+loops-join-nothing g i h = ap length (pieces-by-labels (g .nodes) _ _ (loop-labels (g .links) i _ h))
