@@ -1,5 +1,5 @@
 -- The pieces counted one by one, each taken out of the nodes that are left.
-use Prim.Native.Nat.{ℕ, suc, _+_, _≤_}
+use Prim.Native.Nat.{ℕ, _+_, _≤_}
 use mathlib.Core.Path.{_≡_, refl, sym, ap, ap₂, _∙_}
 use mathlib.Core.List.{List, [], _∷_}
 use mathlib.Core.Bool.{Bool, true, false, not, _&&_, and-eq-true-iff}
@@ -59,13 +59,13 @@ module _ (alive : ℕ) (as₁ bs : List ℕ) (long : (64 ≤ length as₁) × (6
       ∙ sym (filter-indices (λ u. not (together links u v)) (members rest) (members left) (length-digits 64 left ∙ sym (length-digits 64 rest)) has-left)
       ∙ ap (outside links (label links v)) (sym (places-listed rest))
 
-  pub one-less : pieces (nodesIn rest) links ≡ suc (pieces (nodesIn left) links)
+  pub one-less : pieces (nodesIn rest) links ≡ 1 + pieces (nodesIn left) links
   one-less =
       let first = lowest-first rest v lowest in
       let vs = indices (set (members rest) v false) in
       let x = label links v in
       ap (λ (ns : List ℕ). pieces ns links) first ∙ first-parted links v vs
-      ∙ ap (λ (ns : List ℕ). suc (pieces ns links))
+      ∙ ap (λ (ns : List ℕ). 1 + pieces ns links)
       (sym (nodes-left ∙ ap (outside links x) first ∙ filter-past (λ u. not (together links u v)) v vs (ap not (eq-eqb x x refl))))
 
 -- count pieces are found, and the nodes left have the others

@@ -89,6 +89,10 @@ module _ (t : List Ends) where
       go true = omega arith
       go false = omega arith
 
+  one-more : (b : Bool) (k l : ℕ) → k ≡ cond b 0 1 + l → cond b 1 0 + k ≡ 1 + l
+  one-more true k l e = omega arith
+  one-more false k l e = omega arith
+
   -- the piece of label x, where there is one, and the others
   pub parted : (x : ℕ) (vs : List ℕ) → pieces vs t ≡ cond (clear x vs) 0 1 + pieces (outside x vs) t
   unfolding lastOfEach filter every
@@ -96,23 +100,15 @@ module _ (t : List Ends) where
   parted x (v ∷ vs) =
       counted v vs ∙ by-eqb (λ b. cond (clear (label t v) vs) 1 0 + pieces vs t
       ≡ cond (not b && clear x vs) 0 1 + pieces (elim (not b) as (λ c. List ℕ) [ true ↦ v ∷ outside x vs | false ↦ outside x vs ]) t) (label t v) x
-      (λ e. ap (λ (y : ℕ). cond (clear y vs) 1 0 + pieces vs t) e ∙ same (clear x vs) (pieces vs t) (pieces (outside x vs) t) (parted x vs))
+      (λ e. ap (λ (y : ℕ). cond (clear y vs) 1 0 + pieces vs t) e ∙ one-more (clear x vs) (pieces vs t) (pieces (outside x vs) t) (parted x vs))
       (λ o. other (clear x vs) (clear (label t v) vs) (pieces vs t) _ _ (parted x vs) (counted v (outside x vs) ∙ ap (λ (b : Bool). cond b 1 0 + pieces (outside x vs) t) (clear-outside x (label t v) o vs)))
     where
-      same : (b : Bool) (k l : ℕ) → k ≡ cond b 0 1 + l → cond b 1 0 + k ≡ 1 + l
-      same true k l e = omega arith
-      same false k l e = omega arith
-
       other : (b c : Bool) (k l n : ℕ) → k ≡ cond b 0 1 + l → n ≡ cond c 1 0 + l → cond c 1 0 + k ≡ cond b 0 1 + n
       other b c k l n e f = omega arith
 
   -- the piece of a node that stands first, and the others
-  pub first-parted : (v : ℕ) (vs : List ℕ) → pieces (v ∷ vs) t ≡ suc (pieces (outside (label t v) vs) t)
-  first-parted v vs = counted v vs ∙ go (clear (label t v) vs) (pieces vs t) _ (parted (label t v) vs)
-    where
-      go : (b : Bool) (k l : ℕ) → k ≡ cond b 0 1 + l → cond b 1 0 + k ≡ suc l
-      go true k l e = omega arith
-      go false k l e = omega arith
+  pub first-parted : (v : ℕ) (vs : List ℕ) → pieces (v ∷ vs) t ≡ 1 + pieces (outside (label t v) vs) t
+  first-parted v vs = counted v vs ∙ one-more (clear (label t v) vs) (pieces vs t) _ (parted (label t v) vs)
 
   -- no more than there are nodes
   pub pieces-at-most : (vs : List ℕ) → pieces vs t ≤ length vs
@@ -138,7 +134,7 @@ module _ (t : List Ends) where
   unfolding connected
   connected-pieces v vs = all-inside (label t v) vs ∙ same-test (pieces (outside (label t v) vs) t) (pieces (v ∷ vs) t) (first-parted v vs)
     where
-      same-test : (k l : ℕ) → l ≡ suc k → eqb k 0 ≡ eqb l 1
+      same-test : (k l : ℕ) → l ≡ 1 + k → eqb k 0 ≡ eqb l 1
       same-test k l e = by-eqb (λ b. b ≡ eqb l 1) k 0 (λ z. sym (eq-eqb l 1 (omega arith))) (λ n. sym (ne-eqb l 1 (λ z. n (omega arith))))
 
 -- a network with a node is connected exactly if it has one piece
