@@ -309,8 +309,8 @@ fn every_set_of_links_between_four_nodes() {
 }
 
 /// A random plan in so many pieces: each has a node to start with, every other node is joined to a piece, and `more` links run
-/// within pieces.
-fn in_pieces(random: &mut Random, nodes: u8, pieces: usize, more: usize) -> Plan {
+/// within pieces, loops among them or not.
+fn in_pieces(random: &mut Random, nodes: u8, pieces: usize, more: usize, loops: bool) -> Plan {
     let mut order: Vec<u8> = (0..nodes).collect();
     random.shuffle(&mut order);
     let mut all: Vec<Vec<u8>> = order[..pieces].iter().map(|v| vec![*v]).collect();
@@ -320,9 +320,13 @@ fn in_pieces(random: &mut Random, nodes: u8, pieces: usize, more: usize) -> Plan
         ends.push([piece[random.below(piece.len())], *v]);
         piece.push(*v);
     }
-    for _ in 0..more {
+    let count = ends.len() + more;
+    while ends.len() < count {
         let piece = &all[random.below(pieces)];
-        ends.push([0, 1].map(|_| piece[random.below(piece.len())]));
+        let [a, b] = [0, 1].map(|_| piece[random.below(piece.len())]);
+        if loops || a != b {
+            ends.push([a, b]);
+        }
     }
     let mut plan = Plan::random_of(random, nodes, ends.len());
     for (link, [a, b]) in plan.links.iter_mut().zip(ends) {
@@ -341,7 +345,7 @@ fn random_plans_in_known_numbers_of_pieces() {
     for nodes in 1..=32 {
         for pieces in 1..=nodes {
             let more = usize::from(nodes + pieces) % 5;
-            let mut plan = in_pieces(&mut random, nodes, pieces.into(), more);
+            let mut plan = in_pieces(&mut random, nodes, pieces.into(), more, true);
             let figure = hold_pieces(&plan, pieces.into());
             plan.links.retain(|link| link.value > 0);
             let left = outside::pieces::pieces(&plan);
@@ -352,6 +356,22 @@ fn random_plans_in_known_numbers_of_pieces() {
     }
     assert!(worthless > 10, "in one piece without a chance: {worthless}");
     assert!(by_zeros > 50, "joined by links of value 0: {by_zeros}");
+}
+
+/// 64 links in several pieces, without a loop and with loops.
+#[test]
+fn many_links_in_known_numbers_of_pieces() {
+    let mut random = Random::new(58);
+    for nodes in [3, 4, 5, 8, 13, 21, 31, 32] {
+        for pieces in 2..nodes {
+            let more = 64 - usize::from(nodes - pieces);
+            for loops in [false, true] {
+                let plan = in_pieces(&mut random, nodes, pieces.into(), more, loops);
+                assert_eq!(plan.links.len(), 64);
+                hold_pieces(&plan, pieces.into());
+            }
+        }
+    }
 }
 
 /// Random plans of few links, all of one value above 0: the high is above 0 exactly in one piece, though the low may be 0 there.

@@ -1,4 +1,4 @@
--- Text written piece by piece, and numbers in decimal.
+-- Text written part by part, and numbers in decimal.
 use Prim.Native.Nat.{ℕ, zero, suc, _+_, _-_, _*_, _/_, _%_, _^_, _≤_, _<_}
 use mathlib.Core.Path.{_≡_, refl, sym, ap, ap₂, _∙_}
 use mathlib.Core.List.{List, [], _∷_, _++_}
@@ -17,7 +17,7 @@ sets-append : (l : List ℕ) (i : ℕ) (s t : List ℕ) → sets (sets l i s) (i
 sets-append l i [] t = ap (λ (k : ℕ). sets l k t) (add-zero i)
 sets-append l i (a ∷ s) t = ap (λ (k : ℕ). sets (sets (set l i a) (suc i) s) k t) (omega arith) ∙ sets-append (set l i a) (suc i) s t
 
--- ---- text written piece by piece
+-- ---- text written part by part
 
 -- the text so far, with what remains written from a place on, is the whole text, up to its end
 pub record Remaining (l : List ℕ) (at : ℕ) (rest whole : List ℕ) (end size : ℕ) : Type 0 where
@@ -29,16 +29,16 @@ pub begun : (l : List ℕ) (at : ℕ) (t : List ℕ) → Remaining l at t (sets 
 begun l at t = record { written = refl; place = refl; kept = refl }
 
 module _ (l : List ℕ) (at : ℕ) (rest whole : List ℕ) (end size : ℕ) (r : Remaining l at rest whole end size) where
-  -- the next piece and what remains behind it
-  module _ (piece later : List ℕ) (e : rest ≡ piece ++ later) where
-    pub room : end ≤ size → at + length piece ≤ length l
-    room h = omega (arith, r .place, r .kept, ap length e, length-append piece later)
+  -- the next part and what remains behind it
+  module _ (part later : List ℕ) (e : rest ≡ part ++ later) where
+    pub room : end ≤ size → at + length part ≤ length l
+    room h = omega (arith, r .place, r .kept, ap length e, length-append part later)
 
-    pub goes-on : (m : List ℕ) (behind : ℕ) → Puts l at piece m behind → Remaining m behind later whole end size
+    pub goes-on : (m : List ℕ) (behind : ℕ) → Puts l at part m behind → Remaining m behind later whole end size
     goes-on m behind p = record {
-      written = ap₂ (λ (x : List ℕ) (k : ℕ). sets x k later) (p .0) (p .1) ∙ sets-append l at piece later ∙ ap (sets l at) (sym e) ∙ r .written;
-      place = omega (arith, p .1, r .place, ap length e, length-append piece later);
-      kept = ap length (p .0) ∙ length-sets l at piece ∙ r .kept;
+      written = ap₂ (λ (x : List ℕ) (k : ℕ). sets x k later) (p .0) (p .1) ∙ sets-append l at part later ∙ ap (sets l at) (sym e) ∙ r .written;
+      place = omega (arith, p .1, r .place, ap length e, length-append part later);
+      kept = ap length (p .0) ∙ length-sets l at part ∙ r .kept;
     }
 
   -- nothing remains

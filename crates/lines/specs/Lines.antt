@@ -9,9 +9,9 @@ use lib.Dec.{leb, ltb}
 use lib.ListN.{length, getD}
 use lib.Seq.{sets}
 
--- a piece of text written from a place on: what the text is then, and the place behind the piece
+-- a part of a text written from a place on: what the text is then, and the place behind the part
 abbrev pub Puts : List ℕ → ℕ → List ℕ → List ℕ → ℕ → Type 0
-Puts before at piece after behind = (after ≡ sets before at piece) × (behind ≡ at + length piece)
+Puts before at part after behind = (after ≡ sets before at part) × (behind ≡ at + length part)
 
 -- ---- words and numbers
 

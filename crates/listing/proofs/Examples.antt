@@ -4,7 +4,7 @@ use Prim.Native.String.{String}
 use mathlib.Core.Path.{_≡_, refl}
 use mathlib.Core.List.{List, [], _∷_, map}
 use Rattle.rounding.specs.Rounding.{quotient, product, parallel, either, series, factor, split}
-use Rattle.reliability.specs.Networks.{merge, label, every, connected, lastOfEach}
+use Rattle.reliability.specs.Networks.{merge, label, every, lastOfEach}
 use Rattle.reliability.specs.Rule.{firstAt, places, firstPair, lowest, nextAt, deleteAt, without, leaves, grown, treeOf, run}
 use Rattle.reliability.specs.Comparisons.{soundAt}
 use Rattle.search.specs.Searches.{from}
@@ -33,5 +33,5 @@ rows =
     ∷ []
 
 pub examples : map (λ (r : Row). listing (r .plan)) rows ≡ map (λ (r : Row). text (r .prints)) rows
-unfolding rows row listed listing linkLines filled meant decimalOf verdict linksVerdict linkVerdict rated linkIn linksIn from soundAt treeOf grown run leaves nextAt without deleteAt lowest firstPair places firstAt lastOfEach connected every label merge quotient product parallel either series factor split
+unfolding rows row listed listing linkLines filled meant decimalOf verdict linksVerdict linkVerdict rated linkIn linksIn from soundAt treeOf grown run leaves nextAt without deleteAt lowest firstPair places firstAt lastOfEach every label merge quotient product parallel either series factor split
 examples = refl

@@ -98,4 +98,4 @@ module _ (plan : List ℕ) (accepted : verdict plan ≡ Accepted) (i : ℕ) (pla
 
 -- the figure of a plan that lies in several pieces is 0, finished without a split
 pub listed-separate : (plan : List ℕ) → verdict plan ≡ Accepted → 1 < piecesOf (planOf plan) → figure (planOf plan) figureLimit ≡ bounded (λ d. 0) 0 true
-listed-separate plan accepted several = sym (separate-figure (planOf plan) (plan-valid plan accepted) several figureLimit)
+listed-separate plan accepted several = separate-figure (planOf plan) (plan-valid plan accepted) several figureLimit

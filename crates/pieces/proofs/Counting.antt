@@ -15,7 +15,7 @@ use Rattle.reliability.proofs.Connection.{label-means}
 use Rattle.reliability.proofs.Pieces.{outside, first-parted, pieces-at-most}
 use Rattle.search.specs.Searches.{pick, nodesIn, endsByPlace, Ended}
 use Rattle.pieces.specs.Pieces.{Closed, PieceOf}
-use Rattle.search.proofs.Sets.{has, has-place, has-zip}
+use Rattle.search.proofs.Sets.{has, has-place, has-zip, same-length}
 use Rattle.search.proofs.Marks.{Within, Lowest, indices, places-listed, length-places, filter-indices, lowest-first, none-listed}
 use Rattle.pieces.proofs.Flood.{mem-ends}
 
@@ -56,7 +56,7 @@ module _ (alive : ℕ) (as₁ bs : List ℕ) (long : (64 ≤ length as₁) × (6
   nodes-left : nodesIn left ≡ outside links (label links v) (nodesIn rest)
   nodes-left =
       places-listed left
-      ∙ sym (filter-indices (λ u. not (together links u v)) (members rest) (members left) (length-digits 64 left ∙ sym (length-digits 64 rest)) has-left)
+      ∙ sym (filter-indices (λ u. not (together links u v)) (members rest) (members left) (same-length left rest) has-left)
       ∙ ap (outside links (label links v)) (sym (places-listed rest))
 
   pub one-less : pieces (nodesIn rest) links ≡ 1 + pieces (nodesIn left) links

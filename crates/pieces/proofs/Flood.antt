@@ -11,7 +11,7 @@ use lib.ListN.{length, getD}
 use Rattle.bits.specs.Members.{members}
 use Rattle.bits.proofs.Digits.{digitOf}
 use Rattle.reliability.specs.Networks.{Ends, together, Path, here, forth, back}
-use Rattle.reliability.proofs.Lists.{by-eqb}
+use Rattle.reliability.proofs.Lists.{by-eqb, both-ways, or-true as either-true}
 use Rattle.reliability.proofs.Connection.{join, turn, Const, along}
 use Rattle.reliability.proofs.Pieces.{together-means}
 use Rattle.search.specs.Searches.{pick, endsByPlace, touching, Bounded}
@@ -43,10 +43,6 @@ const-ends χ (false ∷ us) (a ∷ as₁) (b ∷ bs) h = const-ends χ us as₁
 
 -- ---- the flood
 
-or-cases : (b c : Bool) → (b || c) ≡ true → (b ≡ true) ⊎ (c ≡ true)
-or-cases true c h = inl refl
-or-cases false c h = inr h
-
 or-left-comm : (b c d : Bool) → (b || (c || d)) ≡ (c || (b || d))
 or-left-comm true c d = sym (or-true c)
 or-left-comm false c d = refl
@@ -54,11 +50,6 @@ or-left-comm false c d = refl
 neither : (b c : Bool) → (b || c) ≡ false → b ≡ c
 neither true c h = absurd (true≢false h)
 neither false c h = sym h
-
-both-ways : (b c : Bool) → (b ≡ true → c ≡ true) → (c ≡ true → b ≡ true) → b ≡ c
-both-ways true c f g = sym (f refl)
-both-ways false true f g = g refl
-both-ways false false f g = refl
 
 one : (b : Bool) → digitOf b ≡ 1 → b ≡ true
 one true h = refl
@@ -146,12 +137,12 @@ module _ {v nodes alive seen near left : ℕ} {as₁ bs : List ℕ} (flood : Flo
       stays : (has nodes x ≡ true) × (has nodes y ≡ true)
       stays =
           ⊎-elim (λ e. let i = flood .inside x e in (i, sym (closed k (near-link k h .0)) ∙ i)) (λ e. let i = flood .inside y e in (closed k (near-link k h .0) ∙ i, i))
-          (or-cases (has seen x) (has seen y) (near-link k h .1))
+          (either-true (has seen x) (has seen y) (near-link k h .1))
 
       joined : Path links v x × Path links v y
       joined =
           both-ends links (record { a = x; b = y }) (mem-ends (members alive) as₁ bs k (near-link k h .0) ka kb)
-          (⊎-map (flood .path x) (flood .path y) (or-cases (has seen x) (has seen y) (near-link k h .1)))
+          (⊎-map (flood .path x) (flood .path y) (either-true (has seen x) (has seen y) (near-link k h .1)))
 
       at-x : has seen′ x ≡ true
       at-x = s x ∙ ap (λ (b : Bool). eqb x y || (b || has seen x)) (eq-eqb x x refl) ∙ or-true (eqb x y)
@@ -165,8 +156,8 @@ module _ {v nodes alive seen near left : ℕ} {as₁ bs : List ℕ} (flood : Flo
       reach : (P : ℕ → Type 0) → P x × P y → ((u : ℕ) → has seen u ≡ true → P u) → (u : ℕ) → has seen′ u ≡ true → P u
       reach P new old u h =
           ⊎-elim (λ e. subst P (sym (eqb-true u y e)) (new .1))
-          (λ r. ⊎-elim (λ e. subst P (sym (eqb-true u x e)) (new .0)) (old u) (or-cases (eqb u x) (has seen u) r))
-          (or-cases (eqb u y) (eqb u x || has seen u) (sym (s u) ∙ h))
+          (λ r. ⊎-elim (λ e. subst P (sym (eqb-true u x e)) (new .0)) (old u) (either-true (eqb u x) (has seen u) r))
+          (either-true (eqb u y) (eqb u x || has seen u) (sym (s u) ∙ h))
 
   abbrev links : List Ends
   links = pick (members alive) (endsByPlace as₁ bs)

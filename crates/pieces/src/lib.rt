@@ -8,7 +8,7 @@ ghost use Rattle.reliability.specs.Networks.{pieces};
 ghost use Rattle.search.specs.Searches.{pick, nodesIn, endsByPlace, Incidence, Bounded, Ended};
 ghost use Rattle.pieces.specs.Pieces.{Closed, PieceOf};
 
-// Of a set of nodes that no link leaves those in v's piece: from v on, each link is followed at most once.
+// Of a set of nodes that no link leaves, those in v's piece: from v on, each link is followed at most once.
 fn piece_of<'r>(
     v: usize,
     nodes: u64,

@@ -2,7 +2,7 @@
 use Prim.Native.Nat.{ℕ, zero, suc, _+_, _-_, _*_, _≤_, _<_, zero-le}
 use mathlib.Core.Path.{_≡_, refl, sym, ap, _∙_, subst}
 use mathlib.Core.List.{List}
-use mathlib.Core.Bool.{Bool, true, false, not, or-true, Bool-discrete}
+use mathlib.Core.Bool.{Bool, true, not, or-true, Bool-discrete}
 use mathlib.Core.Logic.{_⊎_, inl, inr, _↔_, by-cases}
 use native.Mathlib.Numerals.{add-one}
 use native.Mathlib.Omega.{arith}
@@ -10,6 +10,7 @@ use native.Mathlib.Decide.{decLe, decLt, ℕ-discrete}
 use native.Mathlib.Nat.{le-refl}
 use lib.ListN.{length}
 use borrow.Author.Tests.{le-leb, lt-leb, lt-ltb, le-ltb, eq-eqb, ne-eqb}
+use Rattle.reliability.proofs.Lists.{not-true-false}
 use Rattle.plan.specs.declared.Cause.{Cause}
 use Rattle.plan.specs.declared.Cause.the-variants.{Short, Nodes, Links, Length, End, Value}
 use Rattle.plan.specs.declared.Verdict.{Verdict}
@@ -77,10 +78,6 @@ module _ (b : List ℕ) where
 kept : {P : Type 0} {v : Verdict} {c : Cause} → Dec P → v ≡ Accepted → ((P → ⊥) → v ≡ Refused c) → P
 kept (yes p) e r = p
 kept (no n) e r = let q = r n in let z : _≡_ {A = ℕ} 0 1 = cc in absurd (omega arith)
-
-not-true-false : {t : Bool} → (t ≡ true → ⊥) → t ≡ false
-not-true-false {t = true} n = absurd (n refl)
-not-true-false {t = false} n = refl
 
 -- both verdicts of an accepted pair are accepted
 both-accepted : (u v : Verdict) → also u v ≡ Accepted → (u ≡ Accepted) × (v ≡ Accepted)

@@ -2,14 +2,14 @@
 use Prim.Native.Nat.{ℕ, _≤_, min, max}
 use mathlib.Core.Path.{_≡_, refl, sym, ap, _∙_}
 use mathlib.Core.List.{List, [], _∷_, List·Memᴰ, List·Memᴰ·head, List·Memᴰ·tail}
-use mathlib.Core.Bool.{Bool, true, false, cond}
+use mathlib.Core.Bool.{true, false, cond}
 use mathlib.Core.Logic.{_↔_}
 use lib.Dec.{eqb}
 use borrow.Author.Tests.{eqb-true, eq-eqb}
 use native.Mathlib.Decide.{decLe}
 use native.Mathlib.Omega.{arith}
 use Rattle.reliability.specs.Networks.{Ends, merge, label, connected, Path, here, forth, back}
-use Rattle.reliability.proofs.Lists.{by-eqb, every-at, every-of}
+use Rattle.reliability.proofs.Lists.{by-eqb, both-ways, not-true-false, every-at, every-of}
 
 -- ---- paths
 
@@ -113,19 +113,10 @@ connected-means vs t = (
 pub connected-sound : (vs : List ℕ) (t : List Ends) → connected vs t ≡ true → Conn vs t
 connected-sound vs t h χ c u v m n = along χ t c (connected-means vs t .0 h u v m n)
 
--- two tests agree where each implies the other
+-- two sets of links connect alike where each does if the other does
 pub connected-eq : (vs ws : List ℕ) (t s : List Ends) → (Conn vs t → Conn ws s) → (Conn ws s → Conn vs t) → connected vs t ≡ connected ws s
 connected-eq vs ws t s f g =
-    go _ _ (λ h. connected-complete ws s (f (connected-sound vs t h))) (λ h. connected-complete vs t (g (connected-sound ws s h)))
-  where
-    go : (p q : Bool) → (p ≡ true → q ≡ true) → (q ≡ true → p ≡ true) → p ≡ q
-    go true q f g = sym (f refl)
-    go false true f g = g refl
-    go false false f g = refl
+    both-ways _ _ (λ h. connected-complete ws s (f (connected-sound vs t h))) (λ h. connected-complete vs t (g (connected-sound ws s h)))
 
 pub not-connected : (vs : List ℕ) (t : List Ends) → (Conn vs t → ⊥) → connected vs t ≡ false
-not-connected vs t n = go (connected vs t) (connected-sound vs t)
-  where
-    go : (b : Bool) → (b ≡ true → Conn vs t) → b ≡ false
-    go true h = absurd (n (h refl))
-    go false h = refl
+not-connected vs t n = not-true-false (λ h. n (connected-sound vs t h))

@@ -19,6 +19,16 @@ by-eqb P u v same other = go (eqb u v) refl
     go true e = same (eqb-true u v e)
     go false e = other (eqb-false u v e)
 
+-- two tests agree where each implies the other
+pub both-ways : (s t : Bool) → (s ≡ true → t ≡ true) → (t ≡ true → s ≡ true) → s ≡ t
+both-ways true t f g = sym (f refl)
+both-ways false true f g = g refl
+both-ways false false f g = refl
+
+pub not-true-false : {t : Bool} → (t ≡ true → ⊥) → t ≡ false
+not-true-false {t = true} n = absurd (n refl)
+not-true-false {t = false} n = refl
+
 pub or-true : (s t : Bool) → s || t ≡ true → (s ≡ true) ⊎ (t ≡ true)
 or-true true t h = inl h
 or-true false t h = inr h

@@ -13,7 +13,7 @@ use Rattle.rounding.specs.Rounding.{S}
 use Rattle.reliability.specs.declared.Link.{Link}
 use Rattle.reliability.specs.Networks.{Network, linked, linkAt, Ends, ends, merge, label, every, filter, connected, Path, here, together, lastOfEach, pieces, piecesOf, Apart, OneOfEach}
 use Rattle.reliability.specs.Rule.{isLoop, deleteAt, deleted}
-use Rattle.reliability.proofs.Lists.{by-eqb, every-at, filter-mem, mem-filter}
+use Rattle.reliability.proofs.Lists.{by-eqb, not-true-false, every-at, filter-mem, mem-filter}
 use Rattle.reliability.proofs.Connection.{join, label-means}
 
 -- ---- networks and their pieces: one proof computes them all from the definition
@@ -94,7 +94,7 @@ module _ (t : List Ends) where
   one-more false k l e = omega arith
 
   -- the piece of label x, where there is one, and the others
-  pub parted : (x : ℕ) (vs : List ℕ) → pieces vs t ≡ cond (clear x vs) 0 1 + pieces (outside x vs) t
+  parted : (x : ℕ) (vs : List ℕ) → pieces vs t ≡ cond (clear x vs) 0 1 + pieces (outside x vs) t
   unfolding lastOfEach filter every
   parted x [] = refl
   parted x (v ∷ vs) =
@@ -194,11 +194,7 @@ module _ (t : List Ends) where
             ⊎-elim (λ e. absurd (k .1 (label-means t v r .1 (rw (← e) (q .2))))) (λ n. (q .0, n, q .2)) (List·Memᴰ·cases-cons (q .1));
         apart = o .apart .1;
       } in
-      omega (arith, pieces-count (outside t x vs) rs others, parted t x vs, ap {B = ℕ} (λ (b : Bool). cond b 0 1) (found (clear t x vs) (λ h. not-clear vs h (o .inside r (List·Memᴰ·head refl)) refl)))
-    where
-      found : (b : Bool) → (b ≡ true → ⊥) → b ≡ false
-      found true n = absurd (n refl)
-      found false n = refl
+      omega (arith, pieces-count (outside t x vs) rs others, parted t x vs, ap {B = ℕ} (λ (b : Bool). cond b 0 1) (not-true-false (λ h. not-clear vs h (o .inside r (List·Memᴰ·head refl)) refl)))
 
 -- ---- loops and values
 

@@ -1,19 +1,19 @@
 -- A network in more than one piece: its figure is 0, without a split.
 use Prim.Native.Nat.{ℕ, zero, suc, _≤_, _<_}
-use mathlib.Core.Path.{_≡_, refl, ap, _∙_}
+use mathlib.Core.Path.{_≡_, refl, sym, ap, _∙_}
 use mathlib.Core.List.{map}
-use mathlib.Core.Bool.{Bool, true, false, not}
-use mathlib.Core.Option.{Option, some, none, Option·map}
+use mathlib.Core.Bool.{true, false}
+use mathlib.Core.Option.{Option, some, none}
 use native.Mathlib.Nat.{le-refl}
 use native.Mathlib.Omega.{arith}
-use lib.Dec.{eqb, leb}
 use lib.ListN.{length}
 use borrow.Author.Tests.{ne-eqb, lt-leb}
 use Rattle.reliability.specs.declared.Step.{Step}
-use Rattle.reliability.specs.declared.Step.the-variants.{OneNode, Disconnected, Loop, Parallel, Split}
+use Rattle.reliability.specs.declared.Step.the-variants.{Disconnected, Loop}
 use Rattle.reliability.specs.Networks.{Network, Valid, ends, piecesOf}
-use Rattle.reliability.specs.Rule.{isLoop, firstAt, firstPair, lowest, endOf, seriesOf, when, _otherwise_, chosen, next, nextAt, leaves, rest, deleted, bounded, figure}
+use Rattle.reliability.specs.Rule.{isLoop, firstAt, firstPair, lowest, endOf, seriesOf, chosen, next, leaves, rest, deleted, bounded, figure}
 use Rattle.reliability.proofs.Pieces.{pieces-at-most, loops-join-nothing}
+use Rattle.reliability.proofs.Steps.{inTurn, next-by}
 use Rattle.reliability.proofs.Searches.{Answers, Holds, Fails, first-at}
 use Rattle.reliability.proofs.Unrolled.{Below, figure-settled, figure-rest, below-rest}
 
@@ -24,33 +24,32 @@ module _ (g : Network) (several : 1 < piecesOf g) where
   first-step none = Disconnected
 
   first-fits : next g ≡ first-step (firstAt isLoop (g .links))
-  unfolding nextAt
   first-fits =
-      go (firstAt isLoop (g .links)) (leb (length (g .nodes)) 1) (lt-leb (length (g .nodes)) 1 (omega (arith, pieces-at-most (map ends (g .links)) (g .nodes)))) (eqb (piecesOf g) 1) (ne-eqb (piecesOf g) 1 (λ e. omega arith))
+      next-by (chosen g) g _ refl
+      false (lt-leb (length (g .nodes)) 1 (omega (arith, pieces-at-most (map ends (g .links)) (g .nodes))))
+      false (ne-eqb (piecesOf g) 1 (λ e. omega arith)) _ refl _ refl _ refl
+      ∙ go (firstAt isLoop (g .links))
     where
-      go : (loop : Option ℕ) (one : Bool) → one ≡ false → (whole : Bool) → whole ≡ false
-          → (Option·map Loop loop otherwise when one OneNode otherwise when (not whole) Disconnected
-          otherwise Option·map (λ ij. Parallel (ij .0) (ij .1)) (firstPair (g .links))
-          otherwise lowest endOf (g .links) (g .nodes) otherwise lowest seriesOf (g .links) (g .nodes) otherwise Split (chosen g)) ≡ first-step loop
-      go (some i) one o whole w = refl
-      go none one o whole w = rw (o, w)
+      go : (loop : Option ℕ) → inTurn loop false false (firstPair (g .links)) (lowest endOf (g .links) (g .nodes)) (lowest seriesOf (g .links) (g .nodes)) (chosen g) ≡ first-step loop
+      go (some i) = refl
+      go none = refl
 
 -- where networks with fewer links have it
 by-fewer : (g : Network) → Valid g → 1 < piecesOf g → (limit : ℕ)
-    → ((h : Network) → Below g h → 1 < piecesOf h → bounded (λ d. 0) 0 true ≡ figure h limit) → bounded (λ d. 0) 0 true ≡ figure g limit
+    → ((h : Network) → Below g h → 1 < piecesOf h → figure h limit ≡ bounded (λ d. 0) 0 true) → figure g limit ≡ bounded (λ d. 0) 0 true
 unfolding leaves
 by-fewer g valid several limit fewer = go (firstAt isLoop (g .links)) (first-at isLoop (g .links)) (first-fits g several)
   where
-    go : (loop : Option ℕ) → Answers (Holds isLoop (g .links)) (Fails isLoop (g .links)) loop → next g ≡ first-step g several loop → bounded (λ d. 0) 0 true ≡ figure g limit
+    go : (loop : Option ℕ) → Answers (Holds isLoop (g .links)) (Fails isLoop (g .links)) loop → next g ≡ first-step g several loop → figure g limit ≡ bounded (λ d. 0) 0 true
     go (some i) a f =
         let left : leaves g (next g) ≡ rest (deleted i g) = ap (leaves g) f in
-        fewer (deleted i g) (below-rest g valid (deleted i g) left) (omega (arith, loops-join-nothing g i (a .test))) ∙ figure-rest g valid limit (deleted i g) left
-    go none a f = figure-settled g valid limit 0 (ap (leaves g) f)
+        sym (figure-rest g valid limit (deleted i g) left) ∙ fewer (deleted i g) (below-rest g valid (deleted i g) left) (omega (arith, loops-join-nothing g i (a .test)))
+    go none a f = sym (figure-settled g valid limit 0 (ap (leaves g) f))
 
-by-links : (m : ℕ) (g : Network) → Valid g → length (g .links) ≤ m → 1 < piecesOf g → (limit : ℕ) → bounded (λ d. 0) 0 true ≡ figure g limit
+by-links : (m : ℕ) (g : Network) → Valid g → length (g .links) ≤ m → 1 < piecesOf g → (limit : ℕ) → figure g limit ≡ bounded (λ d. 0) 0 true
 by-links zero g valid few several limit = by-fewer g valid several limit (λ h b s. let k = b .fewer in absurd (omega arith))
 by-links (suc m) g valid few several limit = by-fewer g valid several limit (λ h b s. let k = b .fewer in by-links m h (b .valid) (omega arith) s limit)
 
--- low and high are 0, no step is taken, and the figure is finished
-pub separate-figure : (g : Network) → Valid g → 1 < piecesOf g → (limit : ℕ) → bounded (λ d. 0) 0 true ≡ figure g limit
+-- in several pieces low and high are 0, no step is taken, and the figure is finished
+pub separate-figure : (g : Network) → Valid g → 1 < piecesOf g → (limit : ℕ) → figure g limit ≡ bounded (λ d. 0) 0 true
 separate-figure g valid = by-links (length (g .links)) g valid (le-refl (length (g .links)))

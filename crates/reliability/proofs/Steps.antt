@@ -148,28 +148,13 @@ module _ (g : Network) (no-loop : Fails isLoop (g .links)) where
 whole-by : (g : Network) → leb (length (g .nodes)) 1 ≡ false → (whole : Bool) → eqb (piecesOf g) 1 ≡ whole → connected (g .nodes) (map ends (g .links)) ≡ whole
 whole-by g o whole w = one-piece g (omega (arith, leb-false (length (g .nodes)) 1 o)) ∙ w
 
--- step 3 fits exactly where the links do not connect the nodes, as before there was a number of pieces
-pub step-by-connection : (i : ℕ) (g : Network) → nextAt i g
-    ≡ (Option·map Loop (firstAt isLoop (g .links)) otherwise when (leb (length (g .nodes)) 1) OneNode
-    otherwise when (not (connected (g .nodes) (map ends (g .links)))) Disconnected
-    otherwise Option·map (λ ij. Parallel (ij .0) (ij .1)) (firstPair (g .links))
-    otherwise lowest endOf (g .links) (g .nodes) otherwise lowest seriesOf (g .links) (g .nodes) otherwise Split i)
-unfolding nextAt
-step-by-connection i g = go (leb (length (g .nodes)) 1) refl
-  where
-    later : Bool → Step
-    later whole =
-        when (not whole) Disconnected
-        otherwise Option·map (λ ij. Parallel (ij .0) (ij .1)) (firstPair (g .links))
-        otherwise lowest endOf (g .links) (g .nodes) otherwise lowest seriesOf (g .links) (g .nodes) otherwise Split i
+-- the first of steps 1 to 7 that fits, by the answers of the tests
+abbrev pub inTurn : (loop : Option ℕ) (one whole : Bool) (pair : Option (ℕ × ℕ)) (end series : Option Step) → ℕ → Step
+inTurn loop one whole pair end series i =
+    Option·map Loop loop otherwise when one OneNode otherwise when (not whole) Disconnected
+    otherwise Option·map (λ ij. Parallel (ij .0) (ij .1)) pair otherwise end otherwise series otherwise Split i
 
-    go : (one : Bool) → leb (length (g .nodes)) 1 ≡ one
-        → (Option·map Loop (firstAt isLoop (g .links)) otherwise when one OneNode otherwise later (eqb (piecesOf g) 1))
-        ≡ (Option·map Loop (firstAt isLoop (g .links)) otherwise when one OneNode otherwise later (connected (g .nodes) (map ends (g .links))))
-    go true o = refl
-    go false o = ap (λ (whole : Bool). Option·map Loop (firstAt isLoop (g .links)) otherwise later whole) (sym (whole-by g o (eqb (piecesOf g) 1) refl))
-
--- by the answer of each test in turn
+-- it fits, by the answer of each test
 fits-by : (g : Network) → Valid g → (i : ℕ) → Place view g i
     → (loop : Option ℕ) → Answers (Holds isLoop (g .links)) (Fails isLoop (g .links)) loop
     → (one : Bool) → leb (length (g .nodes)) 1 ≡ one
@@ -177,8 +162,7 @@ fits-by : (g : Network) → Valid g → (i : ℕ) → Place view g i
     → (pair : Option (ℕ × ℕ)) → Answers (Pair (g .links)) (Unit {0}) pair
     → (end : Option Step) → (Fails isLoop (g .links) → FitsIf g end)
     → (series : Option Step) → (Fails isLoop (g .links) → FitsIf g series)
-    → Fits g (Option·map Loop loop otherwise when one OneNode otherwise when (not whole) Disconnected
-    otherwise Option·map (λ ij. Parallel (ij .0) (ij .1)) pair otherwise end otherwise series otherwise Split i)
+    → Fits g (inTurn loop one whole pair end series i)
 fits-by g valid k at (some i) l one o whole w pair p end e series s =
     record { place = l .place; same = eqb-true (linkAt g i .a) (linkAt g i .b) (l .test) }
 fits-by g valid k at none l true o whole w pair p end e series s = leb-true (length (g .nodes)) 1 o
@@ -197,6 +181,33 @@ fits-at g valid i at =
     fits-by g valid i at (firstAt isLoop es) (first-at isLoop es) (leb (length vs) 1) refl (eqb (piecesOf g) 1) refl (firstPair es) (first-pair es)
     (lowest endOf es vs) (λ l. lowest-of (Fits g) endOf es vs (end-fits g l))
     (lowest seriesOf es vs) (λ l. lowest-of (Fits g) seriesOf es vs (series-fits g l))
+
+module _ (i : ℕ) (g : Network) where
+  -- the step of the rule, by the answer of each test
+  pub next-by : (loop : Option ℕ) → firstAt isLoop (g .links) ≡ loop
+      → (one : Bool) → leb (length (g .nodes)) 1 ≡ one
+      → (whole : Bool) → eqb (piecesOf g) 1 ≡ whole
+      → (pair : Option (ℕ × ℕ)) → firstPair (g .links) ≡ pair
+      → (end : Option Step) → lowest endOf (g .links) (g .nodes) ≡ end
+      → (series : Option Step) → lowest seriesOf (g .links) (g .nodes) ≡ series
+      → nextAt i g ≡ inTurn loop one whole pair end series i
+  unfolding nextAt
+  next-by loop l one o whole w pair p end e series s = rw (← l, ← o, ← w, ← p, ← e, ← s)
+
+  -- step 3 fits exactly where no earlier step does and the links do not connect the nodes
+  pub step-by-connection : nextAt i g
+      ≡ inTurn (firstAt isLoop (g .links)) (leb (length (g .nodes)) 1) (connected (g .nodes) (map ends (g .links))) (firstPair (g .links)) (lowest endOf (g .links) (g .nodes)) (lowest seriesOf (g .links) (g .nodes)) i
+  step-by-connection = go (leb (length (g .nodes)) 1) refl
+    where
+      first : Bool → Bool → Step
+      first one whole = inTurn (firstAt isLoop (g .links)) one whole (firstPair (g .links)) (lowest endOf (g .links) (g .nodes)) (lowest seriesOf (g .links) (g .nodes)) i
+
+      by-pieces : (one : Bool) → leb (length (g .nodes)) 1 ≡ one → nextAt i g ≡ first one (eqb (piecesOf g) 1)
+      by-pieces one o = next-by _ refl one o _ refl _ refl _ refl _ refl
+
+      go : (one : Bool) → leb (length (g .nodes)) 1 ≡ one → nextAt i g ≡ first one (connected (g .nodes) (map ends (g .links)))
+      go true o = by-pieces true o
+      go false o = by-pieces false o ∙ ap (first false) (sym (whole-by g o _ refl))
 
 -- the choice of document 01
 pub first-link : (g : Network) → Place view g (chosen g)

@@ -1,4 +1,4 @@
--- Networks, and what it means that links connect nodes.
+-- Networks, what it means that links connect nodes, and the pieces in which links leave them.
 use Prim.Native.Nat.{ℕ, min, max, _≤_, _<_}
 use mathlib.Core.List.{List, [], _∷_, map, List·Memᴰ}
 use mathlib.Core.Bool.{Bool, true, false, cond, not, _&&_}

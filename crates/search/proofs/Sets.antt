@@ -72,7 +72,7 @@ has-without r s i e h p = has-set r s i false e h p ∙ go (eqb p i) (has s p)
     go true c = refl
     go false c = refl
 
-same-length : (s t : ℕ) → length (members s) ≡ length (members t)
+pub same-length : (s t : ℕ) → length (members s) ≡ length (members t)
 same-length s t = length-digits 64 s ∙ sym (length-digits 64 t)
 
 -- an operation on two sets, at a place

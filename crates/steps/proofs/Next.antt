@@ -13,7 +13,7 @@ use Rattle.reliability.specs.declared.Step.{Step}
 use Rattle.reliability.specs.declared.Step.the-variants.{OneNode, Disconnected, Loop, Parallel, End, Series, Split}
 use Rattle.reliability.specs.Networks.{Valid, pieces, piecesOf}
 use Rattle.reliability.specs.Rule.{isLoop, firstAt, firstPair, lowest, endOf, seriesOf, chosen, _otherwise_, next}
-use Rattle.reliability.proofs.Steps.{Fits, fits}
+use Rattle.reliability.proofs.Steps.{Fits, next-by, fits}
 use Rattle.network.specs.declared.Network.{Network}
 use Rattle.search.specs.declared.Found.the-variants.{At}
 use Rattle.search.specs.declared.Pair.the-variants.{Both, Neither}
@@ -24,7 +24,7 @@ use Rattle.network.proofs.Picks.{Sized, allRows}
 use Rattle.search.proofs.Marks.{Lowest, length-places, lowest-in, lowest-first, lowest-rest, rest-count, rest-within}
 use Rattle.search.proofs.Answers.{first, hit, pair-members}
 use Rattle.steps.proofs.Ends.{links-ends}
-use Rattle.steps.proofs.Rules.{paired, next-by, loop-rule, pair-rule, end-rule, series-rule}
+use Rattle.steps.proofs.Rules.{paired, loop-rule, pair-rule, end-rule, series-rule}
 
 pick-count : {A : Type 0} (us : List Bool) (xs : List A) → length (pick us xs) ≤ howMany us
 unfolding pick
@@ -62,7 +62,7 @@ module _ (n : Network) (sized : Sized n) where
   loop-right i e =
       let h = hit (λ k. eqb (getD (n .a) k 0) (getD (n .b) k 0)) (placesIn (n .alive)) i e in
       record {
-        by-rule = sym (next-by (networkOf n) (some (indexOf n i)) (loop-rule n sized ∙ ap (Option·map (indexOf n)) (h .first)) _ refl _ refl _ refl _ refl _ refl);
+        by-rule = sym (next-by (chosen (networkOf n)) (networkOf n) (some (indexOf n i)) (loop-rule n sized ∙ ap (Option·map (indexOf n)) (h .first)) _ refl _ refl _ refl _ refl _ refl);
         placed = place-used n i (mem-has (n .alive) i (h .member));
       }
 
@@ -79,12 +79,12 @@ module _ (n : Network) (sized : Sized n) where
 
     pub one-right : leb (howMany (members (n .nodes))) 1 ≡ true → Fitting n OneNode
     unfolding ranked
-    one-right e = record { by-rule = sym (next-by (networkOf n) none no-first true (few true e) _ refl _ refl _ refl _ refl); placed = tt }
+    one-right e = record { by-rule = sym (next-by (chosen (networkOf n)) (networkOf n) none no-first true (few true e) _ refl _ refl _ refl _ refl); placed = tt }
 
     pub apart-right : leb (howMany (members (n .nodes))) 1 ≡ false → (pieces (nodesOf n) (pick (members (n .alive)) (endsByPlace (n .a) (n .b))) ≡ 1 → ⊥) → Fitting n Disconnected
     unfolding ranked
     apart-right more apart = record {
-      by-rule = sym (next-by (networkOf n) none no-first false (few false more) false (ne-eqb (piecesOf (networkOf n)) 1 (λ e. apart (pieces-right ∙ e))) _ refl _ refl _ refl);
+      by-rule = sym (next-by (chosen (networkOf n)) (networkOf n) none no-first false (few false more) false (ne-eqb (piecesOf (networkOf n)) 1 (λ e. apart (pieces-right ∙ e))) _ refl _ refl _ refl);
       placed = tt;
     }
 
@@ -93,7 +93,7 @@ module _ (n : Network) (w : Whole n) where
       → (series : Option Step) → lowest seriesOf (linksOf n) (nodesOf n) ≡ series
       → next (networkOf n) ≡ (Option·map (λ ij. Parallel (ij .0) (ij .1)) pair otherwise end otherwise series otherwise Split (chosen (networkOf n)))
   by-links =
-      next-by (networkOf n) none (no-first n (w .sized) (w .no-loop)) false (few n (w .sized) false (w .more)) true (eq-eqb (piecesOf (networkOf n)) 1 (sym (pieces-right n (w .sized)) ∙ w .whole))
+      next-by (chosen (networkOf n)) (networkOf n) none (no-first n (w .sized) (w .no-loop)) false (few n (w .sized) false (w .more)) true (eq-eqb (piecesOf (networkOf n)) 1 (sym (pieces-right n (w .sized)) ∙ w .whole))
 
   pairs : firstPair (linksOf n) ≡ paired (members (n .alive)) (pairIn (beside (n .a) (n .b)) (placesIn (n .alive)))
   pairs = pair-rule n (w .sized) (w .no-loop)

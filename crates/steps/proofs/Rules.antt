@@ -2,20 +2,18 @@
 use Prim.Native.Nat.{ℕ, zero, suc, _≤_, _<_}
 use mathlib.Core.Path.{_≡_, refl, sym, ap, ap₂, fun-ext, _∙_}
 use mathlib.Core.List.{List, [], _∷_, map, map-map, List·Memᴰ, List·Memᴰ·head, List·Memᴰ·tail}
-use mathlib.Core.Bool.{Bool, true, false, not, _&&_, _||_, and-false, or-false}
+use mathlib.Core.Bool.{Bool, true, false, _&&_, _||_, and-false, or-false}
 use mathlib.Core.Option.{Option, some, none, Option·map}
 use native.Mathlib.Omega.{arith}
-use lib.Dec.{eqb, leb}
+use lib.Dec.{eqb}
 use lib.ListN.{length, getD, length-map}
 use borrow.Author.Tests.{eqb-true, eqb-false, ne-eqb}
 use Rattle.bits.specs.Members.{members, howMany}
 use Rattle.bits.proofs.Digits.{length-digits}
 use Rattle.reliability.specs.declared.Link.{Link}
 use Rattle.reliability.specs.declared.Step.{Step}
-use Rattle.reliability.specs.declared.Step.the-variants.{OneNode, Disconnected, Loop, Parallel, End, Series, Split}
-use Rattle.reliability.specs.Networks.{Network as Graph, piecesOf}
-use Rattle.reliability.specs.Rule
-use Rattle.reliability.specs.Rule.{isLoop, touches, alike, firstAt, places, firstPair, sucs, endOf, seriesOf, lowest, when, _otherwise_, chosen}
+use Rattle.reliability.specs.declared.Step.the-variants.{End, Series}
+use Rattle.reliability.specs.Rule.{isLoop, touches, alike, firstAt, places, firstPair, sucs, endOf, seriesOf, lowest, when}
 use Rattle.reliability.proofs.Searches.{nth}
 use Rattle.network.specs.declared.Network.{Network}
 use Rattle.search.specs.declared.Pair.{Pair}
@@ -164,18 +162,6 @@ lowest-where rule es p g (v ∷ vs) h =
         → elim (when b (g v)) as (λ m. Option Step) [ some s ↦ some s | none ↦ lowest rule es vs ] ≡ Option·map g (first (elim b as (λ c. List ℕ) [ true ↦ v ∷ filter p vs | false ↦ filter p vs ]))
     go true r = refl
     go false r = r
-
--- the step that fits, by the answer of each test in turn
-pub next-by : (g : Graph) → (loop : Option ℕ) → firstAt isLoop (g .links) ≡ loop
-    → (one : Bool) → leb (length (g .nodes)) 1 ≡ one
-    → (whole : Bool) → eqb (piecesOf g) 1 ≡ whole
-    → (pair : Option (ℕ × ℕ)) → firstPair (g .links) ≡ pair
-    → (end : Option Step) → lowest endOf (g .links) (g .nodes) ≡ end
-    → (series : Option Step) → lowest seriesOf (g .links) (g .nodes) ≡ series
-    → Rule.next g ≡ (Option·map Loop loop otherwise when one OneNode otherwise when (not whole) Disconnected
-    otherwise Option·map (λ ij. Parallel (ij .0) (ij .1)) pair otherwise end otherwise series otherwise Split (chosen g))
-unfolding Rule.nextAt
-next-by g loop l one o whole w pair p end e series s = rw (← l, ← o, ← w, ← p, ← e, ← s)
 
 -- ---- the links of a network
 

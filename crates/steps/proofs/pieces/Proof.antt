@@ -1,3 +1,4 @@
+-- The pieces by place are those of the network.
 use mathlib.Core.Path.{_∙_}
 use borrow.Author.Needs.{needs}
 use Rattle.network.proofs.Picks.{Sized}
