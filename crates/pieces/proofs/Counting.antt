@@ -13,7 +13,7 @@ use Rattle.reliability.specs.Networks.{Ends, label, together, lastOfEach, piece
 use Rattle.reliability.proofs.Lists.{filter-past}
 use Rattle.reliability.proofs.Connection.{label-means}
 use Rattle.reliability.proofs.Pieces.{outside, first-parted, pieces-at-most}
-use Rattle.search.specs.Searches.{pick, nodesIn, endsByPlace, Ended}
+use Rattle.search.specs.Searches.{endsIn, nodesIn, Ended}
 use Rattle.pieces.specs.Pieces.{Closed, PieceOf}
 use Rattle.search.proofs.Sets.{has, has-place, has-zip, same-length}
 use Rattle.search.proofs.Marks.{Within, Lowest, indices, places-listed, length-places, filter-indices, lowest-first, none-listed}
@@ -32,9 +32,9 @@ most (false ∷ bs) = omega (arith, most bs)
 -- a set that no link leaves, less the piece of its lowest node v
 module _ (alive : ℕ) (as₁ bs : List ℕ) (long : (64 ≤ length as₁) × (64 ≤ length bs))
     (v rest piece left : ℕ) (lowest : Lowest rest v) (closed : Closed rest alive as₁ bs)
-    (found : PieceOf piece rest (pick (members alive) (endsByPlace as₁ bs)) v) (gone : members left ≡ difference (members rest) (members piece)) where
+    (found : PieceOf piece rest (endsIn alive as₁ bs) v) (gone : members left ≡ difference (members rest) (members piece)) where
   abbrev links : List Ends
-  links = pick (members alive) (endsByPlace as₁ bs)
+  links = endsIn alive as₁ bs
 
   has-left : (u : ℕ) → has left u ≡ (has rest u && not (together links u v))
   has-left u =
@@ -72,7 +72,7 @@ module _ (alive : ℕ) (as₁ bs : List ℕ) (long : (64 ≤ length as₁) × (6
 pub record Counted (nodes alive : ℕ) (as₁ bs : List ℕ) (rest count : ℕ) : Type 0 where
   pub closed : Closed rest alive as₁ bs
   pub within : Within rest nodes
-  pub total : count + pieces (nodesIn rest) (pick (members alive) (endsByPlace as₁ bs)) ≡ pieces (nodesIn nodes) (pick (members alive) (endsByPlace as₁ bs))
+  pub total : count + pieces (nodesIn rest) (endsIn alive as₁ bs) ≡ pieces (nodesIn nodes) (endsIn alive as₁ bs)
 
 module _ (nodes alive : ℕ) (as₁ bs : List ℕ) where
   pub counted-none : Ended nodes alive as₁ bs → Counted nodes alive as₁ bs nodes 0
@@ -81,11 +81,11 @@ module _ (nodes alive : ℕ) (as₁ bs : List ℕ) where
   -- there are no more than 64
   pub counted-few : (rest count : ℕ) → Counted nodes alive as₁ bs rest count → count ≤ 64
   counted-few rest count c =
-      omega (arith, c .total, pieces-at-most (pick (members alive) (endsByPlace as₁ bs)) (nodesIn nodes), length-places nodes, most (members nodes), length-digits 64 nodes)
+      omega (arith, c .total, pieces-at-most (endsIn alive as₁ bs) (nodesIn nodes), length-places nodes, most (members nodes), length-digits 64 nodes)
 
   -- a piece more
   pub counted-more : (64 ≤ length as₁) × (64 ≤ length bs) → (v rest piece left count : ℕ) → Lowest rest v
-      → PieceOf piece rest (pick (members alive) (endsByPlace as₁ bs)) v → members left ≡ difference (members rest) (members piece)
+      → PieceOf piece rest (endsIn alive as₁ bs) v → members left ≡ difference (members rest) (members piece)
       → Counted nodes alive as₁ bs rest count → Counted nodes alive as₁ bs left (count + 1)
   counted-more long v rest piece left count lowest found gone c = record {
     closed = left-closed alive as₁ bs long v rest piece left lowest (c .closed) found gone;
@@ -93,8 +93,8 @@ module _ (nodes alive : ℕ) (as₁ bs : List ℕ) where
     total = omega (arith, c .total, one-less alive as₁ bs long v rest piece left lowest (c .closed) found gone);
   }
 
-  pub counted-all : (rest count : ℕ) → rest ≡ 0 → Counted nodes alive as₁ bs rest count → count ≡ pieces (nodesIn nodes) (pick (members alive) (endsByPlace as₁ bs))
+  pub counted-all : (rest count : ℕ) → rest ≡ 0 → Counted nodes alive as₁ bs rest count → count ≡ pieces (nodesIn nodes) (endsIn alive as₁ bs)
   unfolding lastOfEach
   counted-all rest count e c =
       let none = ap (λ (s : ℕ). nodesIn s) e ∙ none-listed in
-      omega (arith, c .total, ap (λ (ns : List ℕ). pieces ns (pick (members alive) (endsByPlace as₁ bs))) none)
+      omega (arith, c .total, ap (λ (ns : List ℕ). pieces ns (endsIn alive as₁ bs)) none)

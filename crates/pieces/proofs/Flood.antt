@@ -14,7 +14,7 @@ use Rattle.reliability.specs.Networks.{Ends, together, Path, here, forth, back}
 use Rattle.reliability.proofs.Lists.{by-eqb, both-ways, or-true as either-true}
 use Rattle.reliability.proofs.Connection.{join, turn, Const, along}
 use Rattle.reliability.proofs.Pieces.{together-means}
-use Rattle.search.specs.Searches.{pick, endsByPlace, touching, Bounded}
+use Rattle.search.specs.Searches.{endsIn, pick, endsByPlace, touching, Bounded}
 use Rattle.pieces.specs.Pieces.{Closed, PieceOf}
 use Rattle.search.proofs.Sets.{has, has-none}
 
@@ -69,7 +69,7 @@ both-ends t e m (inr p) = (join p (back m here), p)
 pub record Flood (v nodes alive : ℕ) (as₁ bs : List ℕ) (seen near left : ℕ) : Type 0 where
   pub start : has seen v ≡ true
   pub inside : (u : ℕ) → has seen u ≡ true → has nodes u ≡ true
-  pub path : (u : ℕ) → has seen u ≡ true → Path (pick (members alive) (endsByPlace as₁ bs)) v u
+  pub path : (u : ℕ) → has seen u ≡ true → Path (endsIn alive as₁ bs) v u
   pub touched : (p : ℕ) → has near p ≡ (has alive p && (has seen (getD as₁ p 0) || has seen (getD bs p 0)))
   pub followed : (p : ℕ) → has alive p ≡ true → has left p ≡ false → (has seen (getD as₁ p 0) ≡ true) × (has seen (getD bs p 0) ≡ true)
 
@@ -94,6 +94,9 @@ module _ {v nodes alive seen near : ℕ} {as₁ bs : List ℕ} where
       alone u = (λ h. eqb-true u v (is u ∙ h), λ e. sym (is u) ∙ eq-eqb u v e)
 
 module _ {v nodes alive seen near left : ℕ} {as₁ bs : List ℕ} (flood : Flood v nodes alive as₁ bs seen near left) where
+  abbrev links : List Ends
+  links = endsIn alive as₁ bs
+
   -- a link near is in use, and one of its ends is seen
   near-link : (k : ℕ) → has near k ≡ true → (has alive k ≡ true) × ((has seen (getD as₁ k 0) || has seen (getD bs k 0)) ≡ true)
   near-link k h = and-eq-true-iff (has alive k) (has seen (getD as₁ k 0) || has seen (getD bs k 0)) .0 (sym (flood .touched k) ∙ h)
@@ -131,9 +134,6 @@ module _ {v nodes alive seen near left : ℕ} {as₁ bs : List ℕ} (flood : Flo
       y : ℕ
       y = getD bs k 0
 
-      links : List Ends
-      links = pick (members alive) (endsByPlace as₁ bs)
-
       stays : (has nodes x ≡ true) × (has nodes y ≡ true)
       stays =
           ⊎-elim (λ e. let i = flood .inside x e in (i, sym (closed k (near-link k h .0)) ∙ i)) (λ e. let i = flood .inside y e in (closed k (near-link k h .0) ∙ i, i))
@@ -158,9 +158,6 @@ module _ {v nodes alive seen near left : ℕ} {as₁ bs : List ℕ} (flood : Flo
           ⊎-elim (λ e. subst P (sym (eqb-true u y e)) (new .1))
           (λ r. ⊎-elim (λ e. subst P (sym (eqb-true u x e)) (new .0)) (old u) (either-true (eqb u x) (has seen u) r))
           (either-true (eqb u y) (eqb u x || has seen u) (sym (s u) ∙ h))
-
-  abbrev links : List Ends
-  links = pick (members alive) (endsByPlace as₁ bs)
 
   -- every node that a path joins to v is seen: v's piece
   piece : ((u : ℕ) → has nodes u ≡ true → Path links v u → has seen u ≡ true) → PieceOf seen nodes links v

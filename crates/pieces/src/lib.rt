@@ -5,7 +5,7 @@ ghost use Prim.Native.Nat.{_^_, _<_};
 ghost use lib.ListN.{getD};
 ghost use Rattle.bits.specs.Members.{members};
 ghost use Rattle.reliability.specs.Networks.{pieces};
-ghost use Rattle.search.specs.Searches.{pick, nodesIn, endsByPlace, Incidence, Bounded, Ended};
+ghost use Rattle.search.specs.Searches.{nodesIn, endsIn, Incidence, Bounded, Ended};
 ghost use Rattle.pieces.specs.Pieces.{Closed, PieceOf};
 
 // Of a set of nodes that no link leaves, those in v's piece: from v on, each link is followed at most once.
@@ -18,7 +18,7 @@ fn piece_of<'r>(
     b: &'r [u8; 64],
 ) -> u64
     requires { ⌜ (v < 32) × (getD (members nodes) v false ≡ true) × Incidence (now at) alive (now a) (now b) × Bounded alive (now a) (now b) × Closed nodes alive (now a) (now b) ⌝ }
-    ensures { λ r. ⌜ PieceOf r nodes (pick (members alive) (endsByPlace (now (a .entry)) (now (b .entry)))) v ⌝ }
+    ensures { λ r. ⌜ PieceOf r nodes (endsIn alive (now (a .entry)) (now (b .entry))) v ⌝ }
 {
     let mut seen = bits::with(0, v);
     let mut near = at[v];
@@ -41,7 +41,7 @@ fn piece_of<'r>(
 // How many pieces the links in use leave the nodes in: one by one, each from its lowest node on.
 pub fn count<'r>(nodes: u64, alive: u64, at: &'r [u64; 32], a: &'r [u8; 64], b: &'r [u8; 64]) -> u32
     requires { ⌜ (nodes < 2 ^ 32) × Incidence (now at) alive (now a) (now b) × Ended nodes alive (now a) (now b) ⌝ }
-    ensures { λ r. ⌜ r ≡ pieces (nodesIn nodes) (pick (members alive) (endsByPlace (now (a .entry)) (now (b .entry)))) ⌝ }
+    ensures { λ r. ⌜ r ≡ pieces (nodesIn nodes) (endsIn alive (now (a .entry)) (now (b .entry))) ⌝ }
 {
     let mut rest = nodes;
     let mut count = 0;

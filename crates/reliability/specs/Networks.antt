@@ -96,11 +96,11 @@ unfoldable pub lastOfEach : List ℕ → List Ends → List ℕ
 lastOfEach [] t = []
 lastOfEach (v ∷ vs) t = elim (every (λ u. not (together t u v)) vs) [ true ↦ v ∷ lastOfEach vs t | false ↦ lastOfEach vs t ]
 
--- how many pieces the links t leave the nodes in
+-- how many pieces the links t leave the nodes in; one means that they connect the nodes (one-piece in proofs/Pieces.antt)
 abbrev pub pieces : List ℕ → List Ends → ℕ
 pieces vs t = length (lastOfEach vs t)
 
--- those of a network: a loop joins nothing, and a link counts whatever its value
+-- those of a network: a loop joins nothing, and a link counts whatever its value (loops-join-nothing, values-play-no-part there)
 abbrev pub piecesOf : Network → ℕ
 piecesOf g = pieces (g .nodes) (map ends (g .links))
 

@@ -63,6 +63,10 @@ endsByPlace (a ∷ as₁) (b ∷ bs) = record { a = a; b = b } ∷ endsByPlace a
 endsByPlace [] bs = []
 endsByPlace (a ∷ as₁) [] = []
 
+-- the ends of the links in use
+abbrev pub endsIn : ℕ → List ℕ → List ℕ → List Ends
+endsIn alive as₁ bs = pick (members alive) (endsByPlace as₁ bs)
+
 -- ---- what the searches find
 
 -- the first of a list

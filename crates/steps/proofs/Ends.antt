@@ -5,7 +5,7 @@ use mathlib.Core.List.{List, _∷_, map}
 use lib.ListN.{getD}
 use Rattle.bits.specs.Members.{members}
 use Rattle.reliability.specs.Networks.{Valid, Ends, ends}
-use Rattle.search.specs.Searches.{pick, endsByPlace, Bounded, Ended}
+use Rattle.search.specs.Searches.{endsIn, pick, endsByPlace, Bounded, Ended}
 use Rattle.search.proofs.Sets.{has-place, has-below, mem-has}
 use Rattle.network.specs.declared.Network.{Network}
 use Rattle.network.specs.Places.{rows, networkOf, linksOf}
@@ -17,7 +17,7 @@ rows-ends none = refl
 rows-ends (more {x} {y} e) = ap (λ (r : List Ends). record { a = x; b = y } ∷ r) (rows-ends e)
 
 module _ (n : Network) (sized : Sized n) where
-  pub links-ends : map ends (linksOf n) ≡ pick (members (n .alive)) (endsByPlace (n .a) (n .b))
+  pub links-ends : map ends (linksOf n) ≡ endsIn (n .alive) (n .a) (n .b)
   links-ends = sym (pick-map ends (members (n .alive)) (allRows n)) ∙ ap (pick (members (n .alive))) (rows-ends (all-even n sized))
 
   module _ (valid : Valid (networkOf n)) where

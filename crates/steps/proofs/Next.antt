@@ -17,7 +17,7 @@ use Rattle.reliability.proofs.Steps.{Fits, next-by, fits}
 use Rattle.network.specs.declared.Network.{Network}
 use Rattle.search.specs.declared.Found.the-variants.{At}
 use Rattle.search.specs.declared.Pair.the-variants.{Both, Neither}
-use Rattle.search.specs.Searches.{pick, placesIn, endsByPlace, touching, Incidence, found, loops, beside, pairIn, withLinks}
+use Rattle.search.specs.Searches.{endsIn, pick, placesIn, touching, Incidence, found, loops, beside, pairIn, withLinks}
 use Rattle.network.specs.Places.{rank, networkOf, linksOf, nodesOf, indexOf, Used, ranked, Fitting}
 use Rattle.search.proofs.Sets.{has, has-place, has-below, mem-has, at-node}
 use Rattle.network.proofs.Picks.{Sized, allRows}
@@ -48,7 +48,7 @@ pub record Whole (n : Network) : Type 0 where
   pub sized : Sized n
   pub no-loop : loops (n .alive) (n .a) (n .b) ≡ []
   pub more : leb (howMany (members (n .nodes))) 1 ≡ false
-  pub whole : pieces (nodesOf n) (pick (members (n .alive)) (endsByPlace (n .a) (n .b))) ≡ 1
+  pub whole : pieces (nodesOf n) (endsIn (n .alive) (n .a) (n .b)) ≡ 1
 
 -- and no two of them are alike
 pub record Unpaired (n : Network) (at : List ℕ) : Type 0 where
@@ -70,7 +70,7 @@ module _ (n : Network) (sized : Sized n) where
   few b e = ap (λ (l : ℕ). leb l 1) (length-places (n .nodes)) ∙ e
 
   -- the pieces by place are those of the network
-  pub pieces-right : pieces (nodesOf n) (pick (members (n .alive)) (endsByPlace (n .a) (n .b))) ≡ piecesOf (networkOf n)
+  pub pieces-right : pieces (nodesOf n) (endsIn (n .alive) (n .a) (n .b)) ≡ piecesOf (networkOf n)
   pieces-right = ap (pieces (nodesOf n)) (sym (links-ends n sized))
 
   module _ (no-loop : loops (n .alive) (n .a) (n .b) ≡ []) where
@@ -81,7 +81,7 @@ module _ (n : Network) (sized : Sized n) where
     unfolding ranked
     one-right e = record { by-rule = sym (next-by (chosen (networkOf n)) (networkOf n) none no-first true (few true e) _ refl _ refl _ refl _ refl); placed = tt }
 
-    pub apart-right : leb (howMany (members (n .nodes))) 1 ≡ false → (pieces (nodesOf n) (pick (members (n .alive)) (endsByPlace (n .a) (n .b))) ≡ 1 → ⊥) → Fitting n Disconnected
+    pub apart-right : leb (howMany (members (n .nodes))) 1 ≡ false → (pieces (nodesOf n) (endsIn (n .alive) (n .a) (n .b)) ≡ 1 → ⊥) → Fitting n Disconnected
     unfolding ranked
     apart-right more apart = record {
       by-rule = sym (next-by (chosen (networkOf n)) (networkOf n) none no-first false (few false more) false (ne-eqb (piecesOf (networkOf n)) 1 (λ e. apart (pieces-right ∙ e))) _ refl _ refl _ refl);

@@ -5,9 +5,8 @@ use mathlib.Core.Bool.{true}
 use native.Mathlib.Omega.{arith}
 use lib.ListN.{length}
 use borrow.Author.Needs.{needs}
-use Rattle.bits.specs.Members.{members}
 use Rattle.reliability.specs.Networks.{pieces}
-use Rattle.search.specs.Searches.{pick, nodesIn, endsByPlace}
+use Rattle.search.specs.Searches.{endsIn, nodesIn}
 use Rattle.search.proofs.Sets.{has, has-below, full}
 use Rattle.search.proofs.Marks.{Lowest, lowest-of, lowest-in}
 use Rattle.pieces.proofs.Counting.{Counted, counted-none, counted-few, counted-more, counted-all, one-less}
@@ -18,7 +17,7 @@ abbrev Inv-loop : tie.InvT-loop
 Inv-loop nodes alive at a b rest₀ count₀ rest count = Counted nodes alive a b rest count × (rest < 2 ^ 64)
 
 abbrev μ-loop : tie.MeasureT-loop
-μ-loop nodes alive at a b rest₀ count₀ rest count = pieces (nodesIn rest) (pick (members alive) (endsByPlace a b))
+μ-loop nodes alive at a b rest₀ count₀ rest count = pieces (nodesIn rest) (endsIn alive a b)
 
 loop-holds : tie.Need-loop-holds Inv-loop μ-loop
 loop-holds c = (counted-none (c .args .nodes) (c .args .alive) (c .args .a .now) (c .args .b .now) (c .pre .2), search needs)
