@@ -138,6 +138,7 @@ rows-map (more {x} {y} {u} {v} s) f = ap (λ (r : List Link). row (f x) (f y) u 
 -- what holds of every network that is a value: its arrays are full, and it has at most 32 nodes
 pub record Sized (n : Network) : Type 0 where
   pub nodes : n .nodes < 2 ^ 32
+  pub at-length : length (n .at) ≡ 32
   pub a-length : length (n .a) ≡ 64
   pub b-length : length (n .b) ≡ 64
   pub low-length : length (n .low) ≡ 64

@@ -4,13 +4,13 @@ use mathlib.Core.Path.{_≡_}
 use mathlib.Core.List.{List, [], _∷_, _++_}
 use mathlib.Core.Bool.{Bool, true, false}
 use lib.ListN.{getD, replicate}
-use Rattle.bits.specs.Members.{members}
+use Rattle.bits.specs.Members.{members, howMany}
 use Rattle.reliability.specs.declared.Link.{Link}
 use Rattle.reliability.specs.declared.Step.{Step}
 use Rattle.reliability.specs.declared.Step.the-variants.{OneNode, Disconnected, Loop, Parallel, End, Series, Split}
 use Rattle.reliability.specs.Networks.{Network as Graph, Valid, linkAt}
 use Rattle.reliability.specs.Rule.{next}
-use Rattle.search.specs.Searches.{pick, nodesIn}
+use Rattle.search.specs.Searches.{pick, nodesIn, Incidence}
 use Rattle.network.specs.declared.Network.{Network}
 
 -- how many of the places below p are set
@@ -51,9 +51,19 @@ indexOf n p = rank p (members (n .alive))
 abbrev pub linkOf : Network → ℕ → Link
 linkOf n p = linkAt (networkOf n) (indexOf n p)
 
--- what holds of a network by value at all times
+-- what holds of a network by value at all times: the links at each node are those that are counted anew
+-- (their number is the node's tally: tally-counted in proofs/Rules.antt)
 pub record Invariant (n : Network) : Type 0 where
   pub valid : Valid (networkOf n)
+  pub tallies : Incidence (n .at) (n .alive) (n .a) (n .b)
+
+-- the tally of node v
+abbrev pub tally : Network → ℕ → ℕ
+tally n v = howMany (members (getD (n .at) v 0))
+
+-- a network put together from its parts
+abbrev pub assembled : ℕ → ℕ → List ℕ → List ℕ → List ℕ → List ℕ → List ℕ → Network
+assembled alive nodes at as₁ bs lows highs = record { alive = alive; at = at; low = lows; high = highs; a = as₁; b = bs; nodes = nodes }
 
 -- a network that is being built: its k links stand at the places 0 to k − 1
 unfoldable pub Built : Network → ℕ → Type 0

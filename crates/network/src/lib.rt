@@ -1,45 +1,43 @@
-// A network by value: link places in `alive`, ends and values in arrays by place. A link keeps its place until it goes.
+// A network by value: link places in `alive`, ends and values in arrays by place, and in `at` the places of the links at each
+// node. A link keeps its place until it goes. The fields leave no gap between them: a gap costs a copy more at each step.
 use reliability::Link;
 use reliability::Step;
 use rounding::Direction;
 ghost use mathlib.Core.Path.{_≡_};
-ghost use mathlib.Core.List.{_++_, _∷_, [], map};
+ghost use mathlib.Core.List.{_++_, _∷_, []};
 ghost use mathlib.Core.Bool.{cond, false};
 ghost use lib.Dec.{eqb};
-ghost use Prim.Native.Nat.{_+_, _≤_, _<_};
+ghost use lib.ListN.{length, getD, set};
+ghost use Prim.Native.Nat.{_+_, _≤_, _<_, min, max};
+ghost use Rattle.rounding.specs.Rounding.{S, parallel};
 ghost use Rattle.reliability.specs.Networks.{Proper};
-ghost use Rattle.reliability.specs.Rule.{isLoop, rename, renamed, deleteAt, without, deleted, removed, joined, inParallel, inSeries, contracted};
+ghost use Rattle.reliability.specs.Rule.{isLoop, without, deleted, removed, joined, inSeries, contracted};
+ghost use Rattle.reliability.specs.Simple.{Plain, unpaired};
 ghost use Rattle.search.specs.Searches.{from, nodesIn};
-ghost use Rattle.network.specs.Places.{networkOf, linksOf, nodesOf, indexOf, linkOf, Used, Invariant, Built, Fitting};
+ghost use Rattle.network.specs.Places.{networkOf, linksOf, nodesOf, indexOf, linkOf, Used, Invariant, Built, Fitting, assembled};
 
 pub struct Network {
     pub alive: u64,
-    pub nodes: u32,
-    pub a: [u8; 64],
-    pub b: [u8; 64],
+    pub at: [u64; 32],
     pub low: [u32; 64],
     pub high: [u32; 64],
+    pub a: [u8; 64],
+    pub b: [u8; 64],
+    pub nodes: u32,
 }
 
-// x, or keep where x is gone.
-fn renamed(x: u8, keep: u8, gone: u8) -> u8
-    ensures { λ r. ⌜ r ≡ rename keep gone x ⌝ }
+// The lower of two ends.
+fn lower(x: u8, y: u8) -> u8
+    ensures { λ r. ⌜ r ≡ min x y ⌝ }
 {
-    if x == gone { keep } else { x }
+    if x < y { x } else { y }
 }
 
-// Every end gone becomes keep.
-fn all_renamed(mut ends: [u8; 64], keep: u8, gone: u8) -> [u8; 64]
-    ensures { λ r. ⌜ r ≡ map (rename keep gone) ends ⌝ }
+// The higher of two ends.
+fn higher(x: u8, y: u8) -> u8
+    ensures { λ r. ⌜ r ≡ max x y ⌝ }
 {
-    let mut k = 0;
-    while k < 64 {
-        let x = ends[k];
-        let y = renamed(x, keep, gone);
-        ends[k] = y;
-        k += 1;
-    }
-    ends
+    if x < y { y } else { x }
 }
 
 // The end of a link a to b that is not v.
@@ -57,6 +55,38 @@ fn without_node(nodes: u32, v: usize) -> u32
     bits::without(nodes as u64, v) as u32
 }
 
+// Place i gets the value of links i and j side by side.
+fn join(values: &mut [u32; 64], d: Direction, i: usize, j: usize)
+    requires { ⌜ (length (now values) ≡ 64) × (i < 64) × (j < 64) × (getD (now values) i 0 ≤ S) × (getD (now values) j 0 ≤ S) ⌝ }
+    ensures { λ _. ⌜ now (values .exit) ≡ set (now (values .entry)) i (parallel d (getD (now (values .entry)) i 0) (getD (now (values .entry)) j 0)) ⌝ }
+{
+    let both = rounding::parallel(d, values[i], values[j]);
+    values[i] = both;
+}
+
+// The network of these parts.
+pub fn assembled<'r>(
+    alive: u64,
+    nodes: u32,
+    at: &'r [u64; 32],
+    a: &'r [u8; 64],
+    b: &'r [u8; 64],
+    low: &'r [u32; 64],
+    high: &'r [u32; 64],
+) -> Network
+    ensures { λ r. ⌜ r ≡ assembled alive nodes (now (at .entry)) (now (a .entry)) (now (b .entry)) (now (low .entry)) (now (high .entry)) ⌝ }
+{
+    Network {
+        alive,
+        at: *at,
+        low: *low,
+        high: *high,
+        a: *a,
+        b: *b,
+        nodes,
+    }
+}
+
 impl Network {
     // The nodes 0 to n - 1, and no link.
     pub fn new(n: u32) -> Network
@@ -65,11 +95,12 @@ impl Network {
     {
         Network {
             alive: 0,
-            nodes: bits::full(n as u64) as u32,
-            a: [0u8; 64],
-            b: [0u8; 64],
+            at: [0u64; 32],
             low: [0u32; 64],
             high: [0u32; 64],
+            a: [0u8; 64],
+            b: [0u8; 64],
+            nodes: bits::full(n as u64) as u32,
         }
     }
 
@@ -82,6 +113,8 @@ impl Network {
         self.b[k] = l.b;
         self.low[k] = l.low;
         self.high[k] = l.high;
+        tallies::put_in(&mut self.at, l.a, k);
+        tallies::put_in(&mut self.at, l.b, k);
         let alive = bits::with(self.alive, k);
         self.alive = alive;
         self
@@ -105,22 +138,35 @@ impl Network {
         requires { ⌜ Invariant self × Used self i ⌝ }
         ensures { λ r. ⌜ (networkOf r ≡ deleted (indexOf self i) (networkOf self)) × Invariant r ⌝ }
     {
+        let x = self.a[i];
+        let y = self.b[i];
+        tallies::take_out(&mut self.at, x, i);
+        tallies::take_out(&mut self.at, y, i);
         let others = bits::without(self.alive, i);
         self.alive = others;
         self
     }
 
-    // Step 4: links i and j as one.
-    pub fn parallel(mut self, i: usize, j: usize) -> Network
-        requires { ⌜ Invariant self × Fitting self (Step.Parallel i j) ⌝ }
-        ensures { λ r. ⌜ (networkOf r ≡ joined (indexOf self i) (indexOf self j) (inParallel (linkOf self i) (linkOf self j)) (networkOf self)) × Invariant r ⌝ }
+    // Step 4, as often as it fits: the first link with a partner and its earliest partner become one.
+    pub fn parallel(mut self) -> Network
+        requires { ⌜ Invariant self × Plain (networkOf self) ⌝ }
+        ensures { λ r. ⌜ (networkOf r ≡ unpaired (networkOf self)) × Invariant r ⌝ }
     {
-        let low = rounding::parallel(Direction::Down, self.low[i], self.low[j]);
-        let high = rounding::parallel(Direction::Up, self.high[i], self.high[j]);
-        self.low[i] = low;
-        self.high[i] = high;
-        let others = bits::without(self.alive, j);
-        self.alive = others;
+        while let search::Pair::Both(i, j) = search::first_pair(
+            self.alive,
+            &self.at,
+            &self.a,
+            &self.b,
+        ) {
+            join(&mut self.low, Direction::Down, i, j);
+            join(&mut self.high, Direction::Up, i, j);
+            let x = self.a[j];
+            let y = self.b[j];
+            tallies::take_out(&mut self.at, x, j);
+            tallies::take_out(&mut self.at, y, j);
+            let others = bits::without(self.alive, j);
+            self.alive = others;
+        }
         self
     }
 
@@ -129,6 +175,10 @@ impl Network {
         requires { ⌜ Invariant self × Fitting self (Step.End v i) ⌝ }
         ensures { λ r. ⌜ (networkOf r ≡ removed v (deleted (indexOf self i) (networkOf self))) × Invariant r ⌝ }
     {
+        let x = self.a[i];
+        let y = self.b[i];
+        tallies::take_out(&mut self.at, x, i);
+        tallies::take_out(&mut self.at, y, i);
         let others = without_node(self.nodes, v);
         let alive = bits::without(self.alive, i);
         self.nodes = others;
@@ -145,6 +195,12 @@ impl Network {
         let high = rounding::series(Direction::Up, self.high[i], self.high[j]);
         let a = across(v as u8, self.a[i], self.b[i]);
         let b = across(v as u8, self.a[j], self.b[j]);
+        let x = self.a[j];
+        let y = self.b[j];
+        tallies::take_out(&mut self.at, x, j);
+        tallies::take_out(&mut self.at, y, j);
+        tallies::take_out(&mut self.at, v as u8, i);
+        tallies::put_in(&mut self.at, b, i);
         self.a[i] = a;
         self.b[i] = b;
         self.low[i] = low;
@@ -163,26 +219,15 @@ impl Network {
     {
         let x = self.a[i];
         let y = self.b[i];
-        if x < y {
-            self.merged(i, x, y)
-        } else {
-            self.merged(i, y, x)
-        }
-    }
-
-    // Link i and node gone go, and every end gone becomes keep.
-    fn merged(mut self, i: usize, keep: u8, gone: u8) -> Network
-        requires { ⌜ Used self i × (gone < 64) ⌝ }
-        ensures { λ r. ⌜ (nodesOf r ≡ without gone (nodesOf self)) × (linksOf r ≡ map (renamed keep gone) (deleteAt (indexOf self i) (linksOf self))) ⌝ }
-    {
-        let first = self.a;
-        let second = self.b;
-        let a = all_renamed(first, keep, gone);
-        let b = all_renamed(second, keep, gone);
+        let keep = lower(x, y);
+        let gone = higher(x, y);
+        tallies::take_out(&mut self.at, x, i);
+        tallies::take_out(&mut self.at, y, i);
+        let moved = tallies::merge(&mut self.at, keep, gone);
+        tallies::rename(&mut self.a, moved, keep, gone);
+        tallies::rename(&mut self.b, moved, keep, gone);
         let nodes = without_node(self.nodes, gone as usize);
         let alive = bits::without(self.alive, i);
-        self.a = a;
-        self.b = b;
         self.nodes = nodes;
         self.alive = alive;
         self

@@ -50,18 +50,15 @@ fn renamed(x: u8, keep: u8, gone: u8) -> u8
 }
 
 // At the places of a set, every end gone becomes keep.
-pub fn rename<'r>(a: &'r mut [u8; 64], b: &'r mut [u8; 64], places: u64, keep: u8, gone: u8)
-    requires { ⌜ (length (now a) ≡ 64) × (length (now b) ≡ 64) ⌝ }
-    ensures { λ _. ⌜ now (a .exit) ≡ changedAt (rename keep gone) (members places) (now (a .entry)) ⌝ }
-    ensures { λ _. ⌜ now (b .exit) ≡ changedAt (rename keep gone) (members places) (now (b .entry)) ⌝ }
+pub fn rename(ends: &mut [u8; 64], places: u64, keep: u8, gone: u8)
+    requires { ⌜ length (now ends) ≡ 64 ⌝ }
+    ensures { λ _. ⌜ now (ends .exit) ≡ changedAt (rename keep gone) (members places) (now (ends .entry)) ⌝ }
 {
     let mut t = places;
     while t != 0 {
         let k = bits::lowest(t);
-        let x = renamed(a[k], keep, gone);
-        a[k] = x;
-        let y = renamed(b[k], keep, gone);
-        b[k] = y;
+        let x = renamed(ends[k], keep, gone);
+        ends[k] = x;
         t = bits::without_lowest(t);
     }
 }

@@ -1,8 +1,18 @@
-use Rattle.network.proofs.Picks.{allRows, deleted-links}
-use Rattle.network.proofs.Kept.{stands, end-valid}
 use borrow.Author.Needs.{needs}
 use Rattle.network.proofs.Network.end.Statement.{statement}
 use Rattle.network.proofs.Network.end.Tie as tie
+
+element-copy-out-x : tie.Need-element-copy-out-x
+element-copy-out-x c = search needs
+
+element-copy-out-y : tie.Need-element-copy-out-y
+element-copy-out-y c = search needs
+
+take-out-requires : tie.Need-take-out-requires
+take-out-requires c κs = ?
+
+take-out-requires-2 : tie.Need-take-out-requires-2
+take-out-requires-2 c κs = ?
 
 without-node-requires : tie.Need-without-node-requires
 without-node-requires c κs = search needs
@@ -11,11 +21,16 @@ without-requires : tie.Need-without-requires
 without-requires c κs = search needs
 
 returns : tie.Need-returns
-returns c =
-    let s = c .before .before in
-    let n = s .args .self in
-    let links = deleted-links n _ (s .args .i) (allRows n) (s .pre .1 .placed .1) (c .without .ensures) in
-    stands _ (λ t. record { nodes = c .before .without-node .ensures t; links = links t }) (end-valid n (s .pre .0) (s .args .v) (s .args .i) (s .pre .1))
+returns c = ?
 
 pub end-spec : {M : Type 1} → statement M
-end-spec = tie.close (tie.spec without-node-requires without-requires returns)
+end-spec =
+    tie.close
+    (tie.spec
+    element-copy-out-x
+    element-copy-out-y
+    take-out-requires
+    take-out-requires-2
+    without-node-requires
+    without-requires
+    returns)

@@ -1,21 +1,6 @@
-use Prim.Native.Nat.{_≤_}
-use mathlib.Core.Path.{_≡_}
-use Rattle.rounding.specs.Rounding.{S}
-use Rattle.rounding.specs.declared.Direction.{Direction}
-use Rattle.rounding.specs.declared.Direction.the-variants.{Down, Up}
-use Rattle.reliability.specs.Networks.{value}
-use Rattle.reliability.specs.Rule.{inSeries}
-use Rattle.network.proofs.Picks.{Sized, all-even, row, rowAt, rows-set, values-within, joined-links}
-use Rattle.network.proofs.Kept.{stands, series-valid}
 use borrow.Author.Needs.{needs}
 use Rattle.network.proofs.Network.series.Statement.{statement}
 use Rattle.network.proofs.Network.series.Tie as tie
-
-sized : (c : tie.Start) → Sized (c .args .t1)
-sized c = search needs
-
-within : (c : tie.Start) (d : Direction) → (value d (rowAt (c .args .t1) (c .args .i)) ≤ S) × (value d (rowAt (c .args .t1) (c .args .j)) ≤ S)
-within c = values-within (c .args .t1) (sized c) (c .pre .0 .valid) (c .args .i) (c .args .j) (c .pre .1 .placed .1) (c .pre .1 .placed .2)
 
 mul-series : tie.Need-mul-series
 mul-series c = search needs
@@ -30,7 +15,7 @@ element-copy-out-series-2 : tie.Need-element-copy-out-series-2
 element-copy-out-series-2 c = search needs
 
 series-requires : tie.Need-series-requires
-series-requires c κs = within (c .before .before) Down
+series-requires c κs = ?
 
 mul-series-3 : tie.Need-mul-series-3
 mul-series-3 c = search needs
@@ -45,7 +30,7 @@ element-copy-out-series-4 : tie.Need-element-copy-out-series-4
 element-copy-out-series-4 c = search needs
 
 series-requires-2 : tie.Need-series-requires-2
-series-requires-2 c κs = within (c .before .before .before .before .before) Up
+series-requires-2 c κs = ?
 
 cast-across : tie.Need-cast-across
 cast-across c = search needs
@@ -71,45 +56,53 @@ element-copy-out-across-4 c = search needs
 across-requires-2 : tie.Need-across-requires-2
 across-requires-2 c κs = search needs
 
+element-copy-out-x : tie.Need-element-copy-out-x
+element-copy-out-x c = search needs
+
+element-copy-out-y : tie.Need-element-copy-out-y
+element-copy-out-y c = search needs
+
+take-out-requires : tie.Need-take-out-requires
+take-out-requires c κs = ?
+
+take-out-requires-2 : tie.Need-take-out-requires-2
+take-out-requires-2 c κs = ?
+
+cast-take-out : tie.Need-cast-take-out
+cast-take-out c = search needs
+
+take-out-requires-3 : tie.Need-take-out-requires-3
+take-out-requires-3 c κs = ?
+
+put-in-requires : tie.Need-put-in-requires
+put-in-requires c κs = ?
+
 element-write-self : tie.Need-element-write-self
-element-write-self c = search needs
+element-write-self c = ?
 
 element-write-self-2 : tie.Need-element-write-self-2
-element-write-self-2 c = search needs
+element-write-self-2 c = ?
 
 mul-self : tie.Need-mul-self
-mul-self c = search needs
+mul-self c = ?
 
 element-write-self-3 : tie.Need-element-write-self-3
-element-write-self-3 c = search needs
+element-write-self-3 c = ?
 
 mul-self-2 : tie.Need-mul-self-2
-mul-self-2 c = search needs
+mul-self-2 c = ?
 
 element-write-self-4 : tie.Need-element-write-self-4
-element-write-self-4 c = search needs
+element-write-self-4 c = ?
 
 without-node-requires : tie.Need-without-node-requires
 without-node-requires c κs = search needs
 
 without-requires : tie.Need-without-requires
-without-requires c κs = search needs
+without-requires c κs = ?
 
 returns : tie.Need-returns
-returns c =
-    let b = c .before .before .across2 in
-    let a = c .before .before .before .before .before .across in
-    let high = c .before .before .before .before .before .before .before .before .series2 in
-    let low = c .before .before .before .before .before .before .before .before .before .before .before .series in
-    let s = c .before .before .before .before .before .before .before .before .before .before .before .before .before .before in
-    let n = s .args .t1 in
-    let i = s .args .i in
-    let j = s .args .j in
-    let e = row (a .result) (b .result) (low .result) (high .result) in
-    let made : e ≡ inSeries (s .args .v) (rowAt n i) (rowAt n j) = λ t. row (a .ensures t) (b .ensures t) (low .ensures t) (high .ensures t) in
-    let written = rows-set (all-even n (sized s)) i e in
-    let links = joined-links n _ j _ (s .pre .1 .placed .2) (c .without .ensures) (sized s) i e (inSeries (s .args .v)) (s .pre .1 .placed .1) written made in
-    stands _ (λ t. record { nodes = c .before .without-node .ensures t; links = links t }) (series-valid n (s .pre .0) (s .args .v) i j (s .pre .1))
+returns c = ?
 
 pub series-spec : {M : Type 1} → statement M
 series-spec =
@@ -133,6 +126,13 @@ series-spec =
     element-copy-out-across-3
     element-copy-out-across-4
     across-requires-2
+    element-copy-out-x
+    element-copy-out-y
+    take-out-requires
+    take-out-requires-2
+    cast-take-out
+    take-out-requires-3
+    put-in-requires
     element-write-self
     element-write-self-2
     mul-self

@@ -1,16 +1,6 @@
-use mathlib.Core.Path.{refl}
-use lib.ListN.{set}
-use Rattle.reliability.proofs.Validity.{appended-valid}
-use Rattle.network.specs.declared.Network.{Network}
-use Rattle.network.specs.Places.{nodesOf, networkOf}
-use Rattle.network.proofs.Picks.{Sized, all-even, rows-set, built-more, built-appended}
-use Rattle.network.proofs.Kept.{stands}
 use borrow.Author.Needs.{needs}
 use Rattle.network.proofs.Network.with_link.Statement.{statement}
 use Rattle.network.proofs.Network.with_link.Tie as tie
-
-sized : (c : tie.Start) → Sized (c .args .t1)
-sized c = search needs
 
 element-write-self : tie.Need-element-write-self
 element-write-self c = search needs
@@ -30,19 +20,17 @@ mul-self-2 c = search needs
 element-write-self-4 : tie.Need-element-write-self-4
 element-write-self-4 c = search needs
 
+put-in-requires : tie.Need-put-in-requires
+put-in-requires c κs = ?
+
+put-in-requires-2 : tie.Need-put-in-requires-2
+put-in-requires-2 c κs = ?
+
 with-requires : tie.Need-with-requires
 with-requires c κs = search needs
 
 returns : tie.Need-returns
-returns c =
-    let s = c .before in
-    let n = s .args .t1 in
-    let k = s .args .k in
-    let l = s .args .l in
-    let r : Network = record { alive = c .with .result; nodes = n .nodes; a = set (n .a) k (l .a); b = set (n .b) k (l .b); low = set (n .low) k (l .low); high = set (n .high) k (l .high) } in
-    let links = built-appended n r k (s .pre .1) (s .pre .2) (c .with .ensures) (sized s) l (rows-set (all-even n (sized s)) k l) in
-    let valid = appended-valid (networkOf n) (s .pre .0 .valid) l (s .pre .3) in
-    (refl, links, built-more n r k (s .pre .1) (s .pre .2) (c .with .ensures), stands r (λ t. record { nodes = nodesOf n; links = links t }) valid .1)
+returns c = ?
 
 pub with-link-spec : {M : Type 1} → statement M
 with-link-spec =
@@ -54,5 +42,7 @@ with-link-spec =
     element-write-self-3
     mul-self-2
     element-write-self-4
+    put-in-requires
+    put-in-requires-2
     with-requires
     returns)
