@@ -13,6 +13,7 @@ pub mod Remainders
 pub mod Enclosure
 pub mod Unrolled
 pub mod Separate
+pub mod Paths
 pub mod Simple
 pub mod Weights
 pub mod Promises
