@@ -13,6 +13,8 @@ pub mod Remainders
 pub mod Enclosure
 pub mod Unrolled
 pub mod Separate
+pub mod Paths
+pub mod Simple
 pub mod Weights
 pub mod Promises
 pub mod Theorems

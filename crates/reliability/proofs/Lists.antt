@@ -56,6 +56,27 @@ module _ {A : Type 0} where
   mem-set (z ∷ l) (suc i) (List·Memᴰ·head p) = inr (List·Memᴰ·head p)
   mem-set (z ∷ l) (suc i) (List·Memᴰ·tail m) = ⊎-map (λ p. p) (λ n. List·Memᴰ·tail n) (mem-set l i m)
 
+  -- and the other way
+  pub set-mem-new : (l : List A) (i : ℕ) (y : A) → i < length l → List·Memᴰ y (set l i y)
+  set-mem-new [] i y h = absurd (not-suc-le-zero h)
+  set-mem-new (z ∷ l) zero y h = List·Memᴰ·head refl
+  set-mem-new (z ∷ l) (suc i) y h = List·Memᴰ·tail (set-mem-new l i y (le-of-suc-le-suc h))
+
+  pub set-mem-other : {x : A} (l : List A) (i : ℕ) (y : A) → List·Memᴰ x (deleteAt i l) → List·Memᴰ x (set l i y)
+  unfolding deleteAt
+  set-mem-other [] i y m = m
+  set-mem-other (z ∷ l) zero y m = List·Memᴰ·tail m
+  set-mem-other (z ∷ l) (suc i) y (List·Memᴰ·head p) = List·Memᴰ·head p
+  set-mem-other (z ∷ l) (suc i) y (List·Memᴰ·tail m) = List·Memᴰ·tail (set-mem-other l i y m)
+
+  -- the element at a place, or one of the others
+  pub mem-other : {x : A} (l : List A) (i : ℕ) (z : A) → List·Memᴰ x l → (x ≡ getD l i z) ⊎ List·Memᴰ x (deleteAt i l)
+  unfolding deleteAt
+  mem-other (y ∷ l) zero z (List·Memᴰ·head p) = inl p
+  mem-other (y ∷ l) zero z (List·Memᴰ·tail m) = inr m
+  mem-other (y ∷ l) (suc i) z (List·Memᴰ·head p) = inr (List·Memᴰ·head p)
+  mem-other (y ∷ l) (suc i) z (List·Memᴰ·tail m) = ⊎-map (λ p. p) (λ n. List·Memᴰ·tail n) (mem-other l i z m)
+
   pub getD-mem : {i : ℕ} (l : List A) (z : A) → i < length l → List·Memᴰ (getD l i z) l
   getD-mem [] z h = absurd (not-suc-le-zero h)
   getD-mem {i = zero} (x ∷ l) z h = List·Memᴰ·head refl
