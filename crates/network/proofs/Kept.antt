@@ -1,22 +1,31 @@
 -- The invariant, kept by what the network becomes.
-use Prim.Native.Nat.{ℕ}
-use mathlib.Core.Path.{_≡_, sym, ap, subst}
-use mathlib.Core.Bool.{false}
+use Prim.Native.Nat.{ℕ, _<_}
+use mathlib.Core.Path.{_≡_, sym, ap, subst, _∙_}
+use mathlib.Core.List.{List, List·Memᴰ}
+use mathlib.Core.Bool.{Bool, true, false, _&&_}
+use lib.ListN.{getD, set, replicate, getD-replicate, length-replicate}
 use borrow.Author.Tests.{eqb-false}
 use Rattle.reliability.specs.declared.Step.{Step}
-use Rattle.reliability.specs.declared.Step.the-variants.{Parallel, End, Series}
-use Rattle.reliability.specs.Networks.{Network as Graph, Valid}
-use Rattle.reliability.specs.Rule.{isLoop, next, leaves, deleted, removed, joined, inParallel, inSeries, contracted}
+use Rattle.reliability.specs.declared.Step.the-variants.{End, Series}
+use Rattle.reliability.specs.declared.Link.{Link}
+use Rattle.reliability.specs.Networks.{Network as Graph, Valid, Proper}
+use Rattle.reliability.specs.Rule.{isLoop, next, leaves, deleted, removed, joined, inSeries, contracted}
 use Rattle.reliability.proofs.Validity.{proper-at, deleted-valid, contracted-valid}
 use Rattle.reliability.proofs.Steps.{Fits, fits}
-use Rattle.reliability.proofs.Unrolled.{below-rest, below-scaled}
+use Rattle.reliability.proofs.Unrolled.{below-scaled}
+use Rattle.bits.specs.Members.{members}
+use Rattle.search.specs.Searches.{touching, Incidence}
+use Rattle.search.proofs.Sets.{has, has-none, has-below, mem-has}
+use Rattle.tallies.specs.Tallies.{Written}
+use Rattle.tallies.proofs.Laws.{counted, taken, added}
 use Rattle.network.specs.declared.Network.{Network}
-use Rattle.network.specs.Places.{networkOf, indexOf, linkOf, Used, Invariant, ranked, Fitting}
-use Rattle.network.proofs.Picks.{Sized, index-within}
+use Rattle.network.specs.Places.{networkOf, nodesOf, indexOf, linkOf, Used, Invariant, Built, ranked, Fitting}
+use Rattle.network.proofs.Picks.{Sized, index-within, built-free}
+use Rattle.network.proofs.Ends.{bounded}
 
--- r stands for g, which is valid
-pub stands : (r : Network) {g : Graph} → networkOf r ≡ g → Valid g → (networkOf r ≡ g) × Invariant r
-stands r e valid = (e, record { valid = subst Valid (sym e) valid })
+-- r stands for g, which is valid, and its tallies are right
+pub stands : (r : Network) {g : Graph} → networkOf r ≡ g → Valid g → Incidence (r .at) (r .alive) (r .a) (r .b) → (networkOf r ≡ g) × Invariant r
+stands r e valid tallies = (e, record { valid = subst Valid (sym e) valid; tallies = tallies })
 
 module _ (n : Network) (holds : Invariant n) where
   abbrev g : Graph
@@ -30,10 +39,6 @@ module _ (n : Network) (holds : Invariant n) where
     pub known : Fits g (ranked n s)
     known = subst (Fits g) (sym (fitting .by-rule)) (fits g (holds .valid))
 
-  pub parallel-valid : (i j : ℕ) → Fitting n (Parallel i j) → Valid (joined (indexOf n i) (indexOf n j) (inParallel (linkOf n i) (linkOf n j)) g)
-  unfolding leaves ranked
-  parallel-valid i j f = below-rest g (holds .valid) _ (by-rule (Parallel i j) f) .valid
-
   pub end-valid : (v i : ℕ) → Fitting n (End v i) → Valid (removed v (deleted (indexOf n i) g))
   unfolding leaves ranked
   end-valid v i f = below-scaled g (holds .valid) _ _ (by-rule (End v i) f) .valid
@@ -45,3 +50,30 @@ module _ (n : Network) (holds : Invariant n) where
   pub sound-valid : Sized n → (i : ℕ) → Used n i → isLoop (linkOf n i) ≡ false → Valid (contracted (linkOf n i) (deleted (indexOf n i) g))
   sound-valid sized i u no-loop =
       contracted-valid (deleted (indexOf n i) g) (deleted-valid g (holds .valid) (indexOf n i)) (linkOf n i) (proper-at g (holds .valid) (indexOf n i) (index-within n sized i u)) (eqb-false _ _ no-loop)
+
+-- the ends of a link in use
+module _ (n : Network) (sized : Sized n) (holds : Invariant n) (i : ℕ) (u : Used n i) where
+  pub ends-below : (getD (n .a) i 0 < 32) × (getD (n .b) i 0 < 32)
+  ends-below = bounded n sized (holds .valid) i (u .used)
+
+  -- the link goes from the tallies of both
+  pub taken-out : (others : ℕ) (one two : List ℕ) → members others ≡ set (members (n .alive)) i false
+      → Written false (getD (n .a) i 0) i (n .at) one → Written false (getD (n .b) i 0) i one two → Incidence two others (n .a) (n .b)
+  taken-out others one two = taken (n .at) (n .a) (n .b) (n .alive) (record { a-length = sized .a-length; b-length = sized .b-length }) (holds .tallies) i others one two (u .below)
+
+-- an empty network: no node has a link
+pub none-counted : Incidence (replicate 32 0) 0 (replicate 64 0) (replicate 64 0)
+none-counted = counted (replicate 32 0) (replicate 64 0) (replicate 64 0) 0 (record { a-length = length-replicate {A = ℕ} 64 0; b-length = length-replicate {A = ℕ} 64 0 })
+    (λ v p h k. ap (λ (s : ℕ). has s p) (getD-replicate 32 v 0 0 h) ∙ has-none p ∙ ap (λ (b : Bool). b && touching v (getD (replicate 64 0) p 0) (getD (replicate 64 0) p 0)) (sym (has-none p)))
+
+-- the ends of a link that comes
+pub proper-below : (n : Network) → Sized n → (l : Link) → Proper (nodesOf n) l → (l .a < 32) × (l .b < 32)
+proper-below n sized l proper =
+    let below : (v : ℕ) → List·Memᴰ v (nodesOf n) → v < 32 = λ v m. has-below (n .nodes) 32 v (sized .nodes) (mem-has (n .nodes) v m) in
+    (below (l .a) (proper .a-node), below (l .b) (proper .b-node))
+
+-- it is put into the tallies of both
+pub put-into : (n : Network) → Sized n → Invariant n → (k : ℕ) → Built n k → k < 64 → (x y more : ℕ) (one two : List ℕ) → members more ≡ set (members (n .alive)) k true
+    → Written true x k (n .at) one → Written true y k one two → Incidence two more (set (n .a) k x) (set (n .b) k y)
+put-into n sized holds k built below x y more one two =
+    added (n .at) (n .a) (n .b) (n .alive) (record { a-length = sized .a-length; b-length = sized .b-length }) (holds .tallies) k more x y one two below (built-free n k built)

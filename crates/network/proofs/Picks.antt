@@ -241,6 +241,16 @@ module _ (n : Network) (k : ℕ) (built : Built n k) where
   unfolding Built
   built-index i h = ap (rank i) built ∙ rank-first i k (64 - k) h
 
+  -- the next place is free
+  pub built-free : getD (members (n .alive)) k false ≡ false
+  unfolding Built
+  built-free = ap (λ bs. getD bs k false) built ∙ free k (64 - k)
+    where
+      free : (k m : ℕ) → getD (replicate k true ++ replicate m false) k false ≡ false
+      free zero zero = refl
+      free zero (suc m) = refl
+      free (suc k) m = free k m
+
   pub built-links : linksOf n ≡ take k (allRows n)
   unfolding Built
   built-links = ap (λ bs. pick bs (allRows n)) built ∙ pick-first k (64 - k) (allRows n)

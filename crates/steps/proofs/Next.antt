@@ -23,8 +23,8 @@ use Rattle.search.proofs.Sets.{has, has-place, has-below, mem-has, at-node}
 use Rattle.network.proofs.Picks.{Sized, allRows}
 use Rattle.search.proofs.Marks.{Lowest, length-places, lowest-in, lowest-first, lowest-rest, rest-count, rest-within}
 use Rattle.search.proofs.Answers.{first, hit, pair-members}
-use Rattle.steps.proofs.Ends.{links-ends}
-use Rattle.steps.proofs.Rules.{paired, loop-rule, pair-rule, end-rule, series-rule}
+use Rattle.network.proofs.Ends.{links-ends}
+use Rattle.network.proofs.Rules.{paired, loop-rule, pair-rule, end-rule, series-rule}
 
 pick-count : {A : Type 0} (us : List Bool) (xs : List A) → length (pick us xs) ≤ howMany us
 unfolding pick

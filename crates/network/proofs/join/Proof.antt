@@ -1,3 +1,5 @@
+use mathlib.Core.Path.{ap}
+use lib.ListN.{set}
 use borrow.Author.Needs.{needs}
 use Rattle.network.proofs.join.Statement.{statement}
 use Rattle.network.proofs.join.Tie as tie
@@ -24,7 +26,7 @@ element-write-values : tie.Need-element-write-values
 element-write-values c = search needs
 
 returns : tie.Need-returns
-returns c = ?
+returns c = let s = c .before .before .before in ap (set (s .args .values .now) (s .args .i)) (c .parallel .ensures)
 
 pub join-spec : {M : Type 1} → statement M
 join-spec =

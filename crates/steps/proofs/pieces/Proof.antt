@@ -2,7 +2,7 @@
 use mathlib.Core.Path.{_∙_}
 use borrow.Author.Needs.{needs}
 use Rattle.network.proofs.Picks.{Sized}
-use Rattle.steps.proofs.Ends.{ended, bounded}
+use Rattle.network.proofs.Ends.{ended, bounded}
 use Rattle.steps.proofs.Next.{pieces-right}
 use Rattle.steps.proofs.pieces.Statement.{statement}
 use Rattle.steps.proofs.pieces.Tie as tie

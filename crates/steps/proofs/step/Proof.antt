@@ -11,7 +11,7 @@ use Rattle.search.specs.Searches.{loops, withLinks}
 use Rattle.network.proofs.Picks.{Sized}
 use Rattle.search.proofs.Marks.{counted-some}
 use Rattle.search.proofs.Answers.{missed}
-use Rattle.steps.proofs.Ends.{ended, bounded}
+use Rattle.network.proofs.Ends.{ended, bounded}
 use Rattle.steps.proofs.Next.{Whole, Unpaired, loop-right, one-right, apart-right, pair-right, node, end-right, series-right, split-right}
 use Rattle.steps.proofs.step.Statement.{statement}
 use Rattle.steps.proofs.step.Tie as tie

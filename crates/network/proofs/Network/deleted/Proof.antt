@@ -1,6 +1,14 @@
+use mathlib.Core.Path.{_∙_}
+use Rattle.reliability.proofs.Validity.{deleted-valid}
+use Rattle.network.specs.Places.{nodesOf, networkOf, indexOf}
+use Rattle.network.proofs.Picks.{Sized, allRows, deleted-links}
+use Rattle.network.proofs.Kept.{stands, ends-below, taken-out}
 use borrow.Author.Needs.{needs}
 use Rattle.network.proofs.Network.deleted.Statement.{statement}
 use Rattle.network.proofs.Network.deleted.Tie as tie
+
+sized : (c : tie.Start) → Sized (c .args .t1)
+sized c = search needs
 
 element-copy-out-x : tie.Need-element-copy-out-x
 element-copy-out-x c = search needs
@@ -9,16 +17,29 @@ element-copy-out-y : tie.Need-element-copy-out-y
 element-copy-out-y c = search needs
 
 take-out-requires : tie.Need-take-out-requires
-take-out-requires c κs = ?
+take-out-requires c κs =
+    let s = c .before .before .before in
+    (sized s .at-length, ends-below (s .args .t1) (sized s) (s .pre .0) (s .args .i) (s .pre .1) .0, s .pre .1 .below)
 
 take-out-requires-2 : tie.Need-take-out-requires-2
-take-out-requires-2 c κs = ?
+take-out-requires-2 c κs =
+    let t = c .before .take-out in
+    let s = c .before .before .before .before .before in
+    (t .ensures .0 ∙ sized s .at-length, ends-below (s .args .t1) (sized s) (s .pre .0) (s .args .i) (s .pre .1) .1, s .pre .1 .below)
 
 without-requires : tie.Need-without-requires
 without-requires c κs = search needs
 
 returns : tie.Need-returns
-returns c = ?
+returns c =
+    let t = c .before .take-out2 in
+    let f = c .before .before .before .take-out in
+    let s = c .before .before .before .before .before .before .before in
+    let n = s .args .t1 in
+    let i = s .args .i in
+    let links = deleted-links n _ i (allRows n) (s .pre .1) (c .without .ensures) in
+    stands _ (λ t. record { nodes = nodesOf n; links = links t }) (deleted-valid (networkOf n) (s .pre .0 .valid) (indexOf n i))
+    (taken-out n (sized s) (s .pre .0) i (s .pre .1) _ _ _ (c .without .ensures) (f .ensures) (t .ensures))
 
 pub deleted-spec : {M : Type 1} → statement M
 deleted-spec =

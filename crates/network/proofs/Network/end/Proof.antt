@@ -1,6 +1,12 @@
+use mathlib.Core.Path.{_∙_}
+use Rattle.network.proofs.Picks.{Sized, allRows, deleted-links}
+use Rattle.network.proofs.Kept.{stands, end-valid, ends-below, taken-out}
 use borrow.Author.Needs.{needs}
 use Rattle.network.proofs.Network.end.Statement.{statement}
 use Rattle.network.proofs.Network.end.Tie as tie
+
+sized : (c : tie.Start) → Sized (c .args .t1)
+sized c = search needs
 
 element-copy-out-x : tie.Need-element-copy-out-x
 element-copy-out-x c = search needs
@@ -9,10 +15,17 @@ element-copy-out-y : tie.Need-element-copy-out-y
 element-copy-out-y c = search needs
 
 take-out-requires : tie.Need-take-out-requires
-take-out-requires c κs = ?
+take-out-requires c κs =
+    let s = c .before .before .before in
+    let u = s .pre .1 .placed .1 in
+    (sized s .at-length, ends-below (s .args .t1) (sized s) (s .pre .0) (s .args .i) u .0, u .below)
 
 take-out-requires-2 : tie.Need-take-out-requires-2
-take-out-requires-2 c κs = ?
+take-out-requires-2 c κs =
+    let t = c .before .take-out in
+    let s = c .before .before .before .before .before in
+    let u = s .pre .1 .placed .1 in
+    (t .ensures .0 ∙ sized s .at-length, ends-below (s .args .t1) (sized s) (s .pre .0) (s .args .i) u .1, u .below)
 
 without-node-requires : tie.Need-without-node-requires
 without-node-requires c κs = search needs
@@ -21,7 +34,16 @@ without-requires : tie.Need-without-requires
 without-requires c κs = search needs
 
 returns : tie.Need-returns
-returns c = ?
+returns c =
+    let t = c .before .before .take-out2 in
+    let f = c .before .before .before .before .take-out in
+    let s = c .before .before .before .before .before .before .before .before in
+    let n = s .args .t1 in
+    let i = s .args .i in
+    let u = s .pre .1 .placed .1 in
+    let links = deleted-links n _ i (allRows n) u (c .without .ensures) in
+    stands _ (λ t. record { nodes = c .before .without-node .ensures t; links = links t }) (end-valid n (s .pre .0) (s .args .v) i (s .pre .1))
+    (taken-out n (sized s) (s .pre .0) i u _ _ _ (c .without .ensures) (f .ensures) (t .ensures))
 
 pub end-spec : {M : Type 1} → statement M
 end-spec =

@@ -1,6 +1,11 @@
+use mathlib.Core.Path.{sym}
+use Rattle.network.proofs.Picks.{Sized, link-at}
 use borrow.Author.Needs.{needs}
 use Rattle.network.proofs.Network.link.Statement.{statement}
 use Rattle.network.proofs.Network.link.Tie as tie
+
+sized : (c : tie.Start) → Sized (c .args .t1)
+sized c = search needs
 
 element-copy-out-t6 : tie.Need-element-copy-out-t6
 element-copy-out-t6 c = search needs
@@ -21,7 +26,9 @@ element-copy-out-t17 : tie.Need-element-copy-out-t17
 element-copy-out-t17 c = search needs
 
 returns : tie.Need-returns
-returns c = ?
+returns c =
+    let s = c .before .before .before .before in
+    sym (link-at (s .args .t1) (sized s) (s .args .i) (s .pre))
 
 pub link-spec : {M : Type 1} → statement M
 link-spec =

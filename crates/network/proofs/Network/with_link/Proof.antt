@@ -1,6 +1,16 @@
+use mathlib.Core.Path.{refl, _∙_}
+use lib.ListN.{set}
+use Rattle.reliability.proofs.Validity.{appended-valid}
+use Rattle.network.specs.declared.Network.{Network}
+use Rattle.network.specs.Places.{nodesOf, networkOf}
+use Rattle.network.proofs.Picks.{Sized, all-even, rows-set, built-more, built-appended}
+use Rattle.network.proofs.Kept.{stands, proper-below, put-into}
 use borrow.Author.Needs.{needs}
 use Rattle.network.proofs.Network.with_link.Statement.{statement}
 use Rattle.network.proofs.Network.with_link.Tie as tie
+
+sized : (c : tie.Start) → Sized (c .args .t1)
+sized c = search needs
 
 element-write-self : tie.Need-element-write-self
 element-write-self c = search needs
@@ -21,16 +31,31 @@ element-write-self-4 : tie.Need-element-write-self-4
 element-write-self-4 c = search needs
 
 put-in-requires : tie.Need-put-in-requires
-put-in-requires c κs = ?
+put-in-requires c κs =
+    let s = c .before in
+    (sized s .at-length, proper-below (s .args .t1) (sized s) (s .args .l) (s .pre .3) .0, s .pre .2)
 
 put-in-requires-2 : tie.Need-put-in-requires-2
-put-in-requires-2 c κs = ?
+put-in-requires-2 c κs =
+    let s = c .before .before .before in
+    (c .before .put-in .ensures .0 ∙ sized s .at-length, proper-below (s .args .t1) (sized s) (s .args .l) (s .pre .3) .1, s .pre .2)
 
 with-requires : tie.Need-with-requires
 with-requires c κs = search needs
 
 returns : tie.Need-returns
-returns c = ?
+returns c =
+    let t = c .before .put-in2 in
+    let f = c .before .before .before .put-in in
+    let s = c .before .before .before .before .before in
+    let n = s .args .t1 in
+    let k = s .args .k in
+    let l = s .args .l in
+    let r : Network = record { alive = c .with .result; at = t .last .0; nodes = n .nodes; a = set (n .a) k (l .a); b = set (n .b) k (l .b); low = set (n .low) k (l .low); high = set (n .high) k (l .high) } in
+    let links = built-appended n r k (s .pre .1) (s .pre .2) (c .with .ensures) (sized s) l (rows-set (all-even n (sized s)) k l) in
+    let valid = appended-valid (networkOf n) (s .pre .0 .valid) l (s .pre .3) in
+    (refl, links, built-more n r k (s .pre .1) (s .pre .2) (c .with .ensures), stands r (λ t. record { nodes = nodesOf n; links = links t }) valid
+    (put-into n (sized s) (s .pre .0) k (s .pre .1) (s .pre .2) (l .a) (l .b) _ _ _ (c .with .ensures) (f .ensures) (t .ensures)) .1)
 
 pub with-link-spec : {M : Type 1} → statement M
 with-link-spec =
