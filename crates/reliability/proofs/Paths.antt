@@ -1,11 +1,11 @@
 -- Paths carried from one network to another: what keeps a network connected.
 use Prim.Native.Nat.{ℕ, _<_, min, max}
-use mathlib.Core.Path.{_≡_, refl, sym, ap, _∙_, subst}
+use mathlib.Core.Path.{_≡_, refl, sym, _∙_, subst}
 use mathlib.Core.List.{List, map, List·Memᴰ, Memᴰ·map, Memᴰ·of-map}
 use mathlib.Core.Logic.{_⊎_, inl, inr, ⊎-map, ⊎-elim}
 use mathlib.Core.Bool.{cond}
 use native.Mathlib.Omega.{arith}
-use lib.ListN.{length, set}
+use lib.ListN.{length, getD, set}
 use Rattle.reliability.specs.declared.Link.{Link}
 use Rattle.reliability.specs.Networks.{Network, Valid, Ends, ends, linkAt, Path, here, forth, back}
 use Rattle.reliability.specs.Rule.{across, rename, renamed, deleteAt, without, deleted, removed, joined, inParallel, inSeries, contracted}
@@ -22,7 +22,7 @@ path-map t s φ h here = here
 path-map t s φ h (forth {e = e} m p) = join (h e m) (path-map t s φ h p)
 path-map t s φ h (back {e = e} m p) = join (turn (h e m)) (path-map t s φ h p)
 
--- and a network that it takes onto another is connected only if that is
+-- and where it takes the nodes of g onto those of h, h is connected if g is
 pub onto-connected : (g h : Network) (φ : ℕ → ℕ)
     → ((w : ℕ) → List·Memᴰ w (h .nodes) → (v : ℕ) × List·Memᴰ v (g .nodes) × (φ v ≡ w))
     → ((e : Link) → List·Memᴰ e (g .links) → Path (map ends (h .links)) (φ (e .a)) (φ (e .b)))
@@ -46,12 +46,12 @@ onto-connected g h φ from paths c = connected-means (h .nodes) s .1 (λ u w m n
 link-path : {e : Link} {es : List Link} → List·Memᴰ e es → Path (map ends es) (e .a) (e .b)
 link-path m = forth (Memᴰ·map ends m) here
 
--- of a link that joins v and w
+-- a path from v to w leads from end to end of a link that joins them
 either-way : {t : List Ends} (φ : ℕ → ℕ) (e : Link) (v w : ℕ) → Joins (ends e) v w → Path t (φ v) (φ w) → Path t (φ (e .a)) (φ (e .b))
 either-way φ e v w (inl p) q = rw (p .0, p .1) q
 either-way φ e v w (inr p) q = rw (p .0, p .1) (turn q)
 
--- of a link that does not touch v
+-- the ends of a link that does not touch v keep their names
 off-path : {t : List Ends} (w v : ℕ) (e : Link) → Off v (ends e) → Path t (e .a) (e .b) → Path t (rename w v (e .a)) (rename w v (e .b))
 off-path w v e off p = rw (rename-other w v (off .0), rename-other w v (off .1)) p
 
@@ -61,7 +61,7 @@ rename-keep : (keep gone : ℕ) → rename keep gone keep ≡ keep
 rename-keep keep gone = by-eqb (λ b. cond b keep keep ≡ keep) keep gone (λ e. refl) (λ n. refl)
 
 module _ (g h : Network) (i keep gone : ℕ) (joins : Joins (ends (linkAt g i)) gone keep) (onto : Onto keep gone (g .nodes) (h .nodes)) where
-  -- each other link becomes a path
+  -- where each other link becomes a path, what is left is connected
   contracting : ((e : Link) → List·Memᴰ e (g .links) → (e ≡ linkAt g i) ⊎ Path (map ends (h .links)) (rename keep gone (e .a)) (rename keep gone (e .b)))
       → Connected g → Connected h
   contracting others =
@@ -69,6 +69,10 @@ module _ (g h : Network) (i keep gone : ℕ) (joins : Joins (ends (linkAt g i)) 
       (λ e m. ⊎-elim (λ (q : e ≡ linkAt g i). rw q (either-way (rename keep gone) (linkAt g i) gone keep joins (rw (rename-gone keep gone, rename-keep keep gone) here))) (λ p. p) (others e m))
 
 -- ---- links i and j become one
+
+-- a link is one of the two, or one of the others
+which : (es : List Link) (i j : ℕ) (z : Link) → i < j → {e : Link} → List·Memᴰ e es → (e ≡ getD es i z) ⊎ ((e ≡ getD es j z) ⊎ List·Memᴰ e (deleteAt i (deleteAt j es)))
+which es i j z order m = ⊎-elim (λ q. inr (inl q)) (λ n. ⊎-map (λ q. q ∙ getD-delete es i j z order) (λ o. inr o) (mem-other (deleteAt j es) i z n)) (mem-other es j z m)
 
 module _ (g : Network) (i j : ℕ) (new : Link) (order : i < j) (there : j < length (g .links)) where
   abbrev left : List Ends
@@ -83,11 +87,6 @@ module _ (g : Network) (i j : ℕ) (new : Link) (order : i < j) (there : j < len
   other-path : {e : Link} → List·Memᴰ e (deleteAt i (deleteAt j (g .links))) → Path left (e .a) (e .b)
   other-path m = path-left (set-mem-other (deleteAt j (g .links)) i new m)
 
-  -- one of the two, or one of the others
-  which : {e : Link} → List·Memᴰ e (g .links) → (e ≡ linkAt g i) ⊎ ((e ≡ linkAt g j) ⊎ List·Memᴰ e (deleteAt i (deleteAt j (g .links))))
-  which m = ⊎-elim (λ q. inr (inl q))
-      (λ n. ⊎-map (λ q. q ∙ getD-delete (g .links) i j _ order) (λ o. inr o) (mem-other (deleteAt j (g .links)) i _ n)) (mem-other (g .links) j _ m)
-
 -- ---- each step leaves a connected network connected
 
 pub pair-connected : (g : Network) (i j : ℕ) → AtPair g i j → Connected g → Connected (sideBySide i j g)
@@ -99,7 +98,7 @@ pair-connected g i j h =
     onto-connected g (sideBySide i j g) (λ v. v) (λ w m. (w, m, refl)) (λ k m. ⊎-elim
     (λ (q : k ≡ e). rw q path)
     (⊎-elim (λ (q : k ≡ f). rw q (either-way (λ v. v) f (e .a) (e .b) (h .alike) path)) (other-path g i j new (h .order) (h .place)))
-    (which g i j new (h .order) (h .place) m))
+    (which (g .links) i j _ (h .order) m))
 
 module _ (g : Network) (valid : Valid g) where
   -- v goes, and its neighbour across link i stays
@@ -123,7 +122,7 @@ module _ (g : Network) (valid : Valid g) where
       (⊎-elim
       (λ (q : k ≡ f). rw q (either-way (rename w v) f v (across v f) (h .second .joins) (rw (rename-gone w v, rename-other w v (h .second .differ)) (new-path g i j new (h .order) (h .place)))))
       (λ n. off-path w v k (h .others k n) (other-path g i j new (h .order) (h .place) n)))
-      (which g i j new (h .order) (h .place) m))
+      (which (g .links) i j _ (h .order) m))
 
   pub contracted-connected : (i : ℕ) → AtSplit g i → Connected g → Connected (contracted (linkAt g i) (deleted i g))
   contracted-connected i h =

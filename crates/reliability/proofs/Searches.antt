@@ -1,14 +1,16 @@
 -- What each search of the rule finds.
 use Prim.Native.Nat.{ℕ, zero, suc, _<_, suc-le-suc, zero-le}
-use mathlib.Core.Path.{_≡_, refl, ap, _∙_}
+use mathlib.Core.Path.{_≡_, refl, sym, ap, _∙_, subst}
 use mathlib.Core.List.{List, [], _∷_, map, List·Memᴰ, List·Memᴰ·head, List·Memᴰ·tail}
-use mathlib.Core.Bool.{Bool, true, false}
+use mathlib.Core.Bool.{Bool, true, false, true≢false}
+use mathlib.Core.Logic.{_↔_}
 use mathlib.Core.Option.{Option, some, none, Option·map}
 use lib.ListN.{length, getD}
 use Rattle.reliability.specs.declared.Link.{Link}
 use Rattle.reliability.specs.declared.Step.{Step}
 use Rattle.reliability.specs.Networks.{linked}
 use Rattle.reliability.specs.Rule.{alike, touches, firstAt, firstPair, sucs, places, lowest, deleteAt}
+use Rattle.reliability.proofs.Lists.{mem-delete, getD-mem}
 
 -- what holds of an answer, or where there is none
 abbrev pub Answers : {A : Type 0} → (A → Type 0) → Type 0 → Option A → Type 0
@@ -50,6 +52,14 @@ module _ (p : Link → Bool) where
       go false t (some i) h = holds-later e es i h
       go false t none h = fails-more e es t h
 
+  -- none is found exactly where the test fails at each link
+  pub none-found : (es : List Link) → (firstAt p es ≡ none) ↔ Fails es
+  none-found es = (λ h. subst (Answers (Holds es) (Fails es)) h (first-at es), λ f. go f (firstAt p es) (first-at es))
+    where
+      go : Fails es → (o : Option ℕ) → Answers (Holds es) (Fails es) o → o ≡ none
+      go f (some i) h = absurd (true≢false (sym (h .test) ∙ f _ (getD-mem es _ (h .place))))
+      go f none h = refl
+
   -- no place, one or two; of more nothing is said
   abbrev pub Placed : List Link → List ℕ → Type 0
   Placed es [] = Fails es
@@ -87,16 +97,36 @@ pub record Pair (es : List Link) (ij : ℕ × ℕ) : Type 0 where
   pub place : ij .1 < length es
   pub test : alike (nth es (ij .0)) (nth es (ij .1)) ≡ true
 
-pub first-pair : (es : List Link) → Answers (Pair es) (Unit {0}) (firstPair es)
+-- no link is alike to one behind it
+abbrev pub Distinct : List Link → Type 0
+Distinct [] = Unit {0}
+Distinct (e ∷ es) = Fails (alike e) es × Distinct es
+
+pub first-pair : (es : List Link) → Answers (Pair es) (Distinct es) (firstPair es)
 unfolding firstPair
 first-pair [] = tt
 first-pair (e ∷ es) = go (firstAt (alike e) es) (first-at (alike e) es) (firstPair es) (first-pair es)
   where
-    go : (o : Option ℕ) → Answers (Holds (alike e) es) (Fails (alike e) es) o → (q : Option (ℕ × ℕ)) → Answers (Pair es) (Unit {0}) q
-        → Answers (Pair (e ∷ es)) (Unit {0}) (elim o [ some j ↦ some (zero, suc j) | none ↦ Option·map sucs q ])
+    go : (o : Option ℕ) → Answers (Holds (alike e) es) (Fails (alike e) es) o → (q : Option (ℕ × ℕ)) → Answers (Pair es) (Distinct es) q
+        → Answers (Pair (e ∷ es)) (Distinct (e ∷ es)) (elim o [ some j ↦ some (zero, suc j) | none ↦ Option·map sucs q ])
     go (some j) h q k = record { order = suc-le-suc zero-le; place = suc-le-suc (h .place); test = h .test }
     go none h (some ij) k = record { order = suc-le-suc (k .order); place = suc-le-suc (k .place); test = k .test }
-    go none h none k = tt
+    go none h none k = (h, k)
+
+-- none is found exactly where the links are distinct
+pub no-pair : (es : List Link) → (firstPair es ≡ none) ↔ Distinct es
+unfolding firstPair
+no-pair es = (λ h. subst (Answers (Pair es) (Distinct es)) h (first-pair es), distinct-none es)
+  where
+    distinct-none : (es : List Link) → Distinct es → firstPair es ≡ none
+    distinct-none [] d = refl
+    distinct-none (e ∷ es) d = rw (none-found (alike e) es .1 (d .0), distinct-none es (d .1), firstPair)
+
+pub distinct-delete : (es : List Link) (i : ℕ) → Distinct es → Distinct (deleteAt i es)
+unfolding deleteAt
+distinct-delete [] i d = tt
+distinct-delete (e ∷ es) zero d = d .1
+distinct-delete (e ∷ es) (suc i) d = (λ f m. d .0 f (mem-delete i es m), distinct-delete es i (d .1))
 
 -- what holds of a rule's answer at each node holds of the lowest node's
 pub lowest-of : (P : Step → Type 0) (rule : ℕ → List ℕ → Option Step) (es : List Link) (vs : List ℕ)

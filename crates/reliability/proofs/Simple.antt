@@ -1,28 +1,27 @@
--- Simple networks: the step that fits them, and what keeps a network simple.
+-- Simple networks: the step that fits them, what each step leaves of them, and how a network is made simple.
 use Prim.Native.Nat.{ℕ, zero, suc, _-_, _≤_, _<_, min, max}
 use mathlib.Core.Path.{_≡_, refl, sym, ap, _∙_, subst}
 use mathlib.Core.List.{List, [], _∷_, map, List·Memᴰ, List·Memᴰ·head, List·Memᴰ·tail, List·Memᴰ·not-nil, List·Memᴰ·eq-of-singleton, Memᴰ·cast, Memᴰ·of-map}
-use mathlib.Core.Bool.{Bool, true, false, cond, _&&_, true≢false, or-true}
-use mathlib.Core.Logic.{_↔_, _⊎_, inl, inr, ⊎-elim}
-use mathlib.Core.Option.{Option, some, none, Option·map, Option·none-ne-some}
+use mathlib.Core.Bool.{true, false, cond, true≢false}
+use mathlib.Core.Logic.{_⊎_, inl, inr, ⊎-elim}
+use mathlib.Core.Option.{Option, some, none}
 use native.Mathlib.Nat.{not-suc-le-zero, le-of-suc-le-suc, le-refl, le-of-eq}
 use native.Mathlib.Omega.{arith}
 use lib.Dec.{eqb, leb}
 use lib.ListN.{length, set, length-set}
 use lib.Seq.{lt-length-set}
-use borrow.Author.Tests.{leb-false, eqb-false, eq-eqb, ne-eqb, le-leb, lt-leb}
+use borrow.Author.Tests.{leb-false, eqb-false, ne-eqb, le-leb, lt-leb}
 use Rattle.reliability.specs.declared.Link.{Link}
-use Rattle.reliability.specs.declared.Step.{Step}
-use Rattle.reliability.specs.declared.Step.the-variants.{OneNode, Loop, Parallel, Series, Split}
+use Rattle.reliability.specs.declared.Step.the-variants.{OneNode, Parallel, Series, Split}
 use Rattle.reliability.specs.Networks.{Network, Valid, Ends, ends, linkAt, connected, lastOfEach, pieces, piecesOf}
-use Rattle.reliability.specs.Rule.{isLoop, alike, sucs, deleteAt, firstAt, firstPair, lowest, endOf, seriesOf, when, _otherwise_, nextAt, chosen, next, leaves, rest, deleted, removed, joined, contracted, inParallel, inSeries, rename, renamed, across, bounded, figure}
+use Rattle.reliability.specs.Rule.{isLoop, deleteAt, firstAt, firstPair, lowest, endOf, seriesOf, when, _otherwise_, nextAt, chosen, next, leaves, rest, deleted, removed, joined, contracted, inParallel, inSeries, rename, renamed, across, bounded, figure}
 use Rattle.reliability.specs.Simple.{Loopless, Pairless, Connected, Plain, Simple, sideBySide, joinedPairs, unpaired}
 use Rattle.reliability.proofs.Lists.{by-eqb, length-delete, mem-delete, getD-mem, getD-delete}
 use Rattle.reliability.proofs.Pieces.{connected-pieces, first-parted}
-use Rattle.reliability.proofs.Searches.{Answers, nth, Holds, Fails, first-at, Pair, first-pair}
-use Rattle.reliability.proofs.States.{Joins, Off}
+use Rattle.reliability.proofs.Searches.{Answers, nth, none-found, Pair, Distinct, first-pair, no-pair, distinct-delete}
+use Rattle.reliability.proofs.States.{Joins}
 use Rattle.reliability.proofs.Validity.{mem-joined, larger-smaller, proper-at, deleted-valid, joined-valid, removed-valid, contracted-valid, parallel-proper}
-use Rattle.reliability.proofs.Steps.{AtPair, AtEnd, AtSeries, AtSplit, alike-joins, inTurn, next-by, step-by-connection}
+use Rattle.reliability.proofs.Steps.{AtPair, AtEnd, AtSeries, AtSplit, joins-alike, at-pair, next-by, step-by-connection}
 use Rattle.reliability.proofs.Remainders.{left-by}
 use Rattle.reliability.proofs.Unrolled.{Below, figure-rest, below-rest}
 use Rattle.reliability.proofs.Separate.{separate-figure}
@@ -30,7 +29,7 @@ use Rattle.reliability.proofs.Paths.{pair-connected, end-connected, ser
 
 -- ---- connected
 
--- connected means: in one piece at most
+-- connected: in at most one piece
 pub connected-pieces-few : (g : Network) → connected (g .nodes) (map ends (g .links)) ≡ leb (piecesOf g) 1
 unfolding connected lastOfEach
 connected-pieces-few g = go (g .nodes)
@@ -63,78 +62,12 @@ module _ (g : Network) (valid : Valid g) (i : ℕ) (first : firstAt isLoop (g .l
   pub loop-figure : (limit : ℕ) → figure (deleted i g) limit ≡ figure g limit
   loop-figure limit = figure-rest g valid limit (deleted i g) loop-leaves
 
--- of a simple network steps 2, 5, 6 and 7 are left
+-- no step but 2, 5, 6 and 7 fits a simple network
 pub simple-next : (g : Network) → Simple g → (k : ℕ) → nextAt k g
     ≡ (when (leb (length (g .nodes)) 1) OneNode otherwise lowest endOf (g .links) (g .nodes) otherwise lowest seriesOf (g .links) (g .nodes) otherwise Split k)
 simple-next g simple k = step-by-connection k g ∙ rw (simple .plain .loopless, simple .plain .connected, simple .pairless)
 
--- ---- step 4 as often as it fits
-
-module _ (g : Network) (i j : ℕ) (found : firstPair (g .links) ≡ some (i, j)) where
-  pub pair-at : AtPair g i j
-  pair-at =
-      let p = subst (Answers (Pair (g .links)) (Unit {0})) found (first-pair (g .links)) in
-      record { order = p .order; place = p .place; alike = alike-joins (linkAt g i) (linkAt g j) (p .test) }
-
-  pub pair-valid : Valid g → Valid (sideBySide i j g)
-  pair-valid valid =
-      let p = pair-at in
-      joined-valid g valid i j _ (p .order) (parallel-proper (g .nodes) (linkAt g i) (linkAt g j) (proper-at g valid i (omega arith)) (proper-at g valid j (p .place)))
-
-  pub pair-fewer : suc (length (sideBySide i j g .links)) ≡ length (g .links)
-  pair-fewer =
-      let e = inParallel (linkAt g i) (linkAt g j) in
-      length-delete (set (g .links) i e) (lt-length-set (g .links) i e (pair-at .place)) ∙ length-set (g .links) i e
-
-  pub unpaired-here : unpaired g ≡ unpaired (sideBySide i j g)
-  unfolding joinedPairs
-  unpaired-here = ap (λ m. joinedPairs m g) (sym pair-fewer) ∙ rw (found, joinedPairs)
-
-pub unpaired-none : (g : Network) → Pairless g → unpaired g ≡ g
-unfolding joinedPairs
-unpaired-none g none-found = go (length (g .links))
-  where
-    go : (m : ℕ) → joinedPairs m g ≡ g
-    go zero = refl
-    go (suc m) = rw (none-found, joinedPairs)
-
--- ---- loops and pairs, link by link
-
-pub none-found : (p : Link → Bool) (es : List Link) → (firstAt p es ≡ none) ↔ Fails p es
-none-found p es = (λ h. subst (Answers (Holds p es) (Fails p es)) h (first-at p es), λ f. go f (firstAt p es) (first-at p es))
-  where
-    go : Fails p es → (o : Option ℕ) → Answers (Holds p es) (Fails p es) o → o ≡ none
-    go f (some i) h = absurd (true≢false (sym (h .test) ∙ f _ (getD-mem es _ (h .place))))
-    go f none h = refl
-
--- no link has the same two ends as one behind it
-abbrev pub Distinct : List Link → Type 0
-Distinct [] = Unit {0}
-Distinct (e ∷ es) = Fails (alike e) es × Distinct es
-
-pub pairless-means : (es : List Link) → (firstPair es ≡ none) ↔ Distinct es
-unfolding firstPair
-pairless-means [] = (λ h. tt, λ d. refl)
-pairless-means (e ∷ es) = go (firstAt (alike e) es) refl (firstPair es) (pairless-means es)
-  where
-    go : (o : Option ℕ) → firstAt (alike e) es ≡ o → (q : Option (ℕ × ℕ)) → (q ≡ none) ↔ Distinct es
-        → (_≡_ {A = Option (ℕ × ℕ)} (elim o [ some j ↦ some (zero, suc j) | none ↦ Option·map sucs q ]) none) ↔ (Fails (alike e) es × Distinct es)
-    go (some j) p q k = (λ h. absurd (Option·none-ne-some _ (sym h)), λ d. absurd (Option·none-ne-some _ (sym (none-found (alike e) es .1 (d .0)) ∙ p)))
-    go none p (some ij) k = (λ h. absurd (Option·none-ne-some _ (sym h)), λ d. absurd (Option·none-ne-some _ (sym (k .1 (d .1)))))
-    go none p none k = (λ h. (none-found (alike e) es .0 p, k .0 refl), λ d. refl)
-
-distinct-delete : (es : List Link) (i : ℕ) → Distinct es → Distinct (deleteAt i es)
-unfolding deleteAt
-distinct-delete [] i d = tt
-distinct-delete (e ∷ es) zero d = d .1
-distinct-delete (e ∷ es) (suc i) d = (λ f m. d .0 f (mem-delete i es m), distinct-delete es i (d .1))
-
--- two links that join the same two nodes are alike
-joins-alike : (e f : Link) (v w : ℕ) → Joins (ends e) v w → Joins (ends f) v w → alike e f ≡ true
-joins-alike e f v w (inl p) (inl q) = rw (p .0, p .1, q .0, q .1, eq-eqb v v refl, eq-eqb w w refl)
-joins-alike e f v w (inl p) (inr q) = rw (p .0, p .1, q .0, q .1, eq-eqb v v refl, eq-eqb w w refl) (or-true (eqb v w && eqb w v))
-joins-alike e f v w (inr p) (inl q) = rw (p .0, p .1, q .0, q .1, eq-eqb v v refl, eq-eqb w w refl) (or-true (eqb w v && eqb v w))
-joins-alike e f v w (inr p) (inr q) = rw (p .0, p .1, q .0, q .1, eq-eqb v v refl, eq-eqb w w refl)
+-- ---- what each step leaves of a simple network
 
 -- no other link joins the two nodes that the link at place i joins
 distinct-at : (es : List Link) (i : ℕ) → Distinct es → i < length es → {f : Link} → List·Memᴰ f (deleteAt i es)
@@ -146,9 +79,7 @@ distinct-at (e ∷ es) (suc i) d h {f} (List·Memᴰ·head q) v w j k =
     true≢false (sym (joins-alike e (nth es i) v w (rw q at k) j) ∙ d .0 (nth es i) (getD-mem es _ (le-of-suc-le-suc h)))
 distinct-at (e ∷ es) (suc i) d h (List·Memᴰ·tail m) v w j k = distinct-at es i (d .1) (le-of-suc-le-suc h) m v w j k
 
--- ---- what keeps a network simple
-
--- two nodes that a contraction makes one were one, or those of the link
+-- two nodes that have one name after a contraction had one before, or are those of the link
 made-one : (keep gone x y : ℕ) → rename keep gone x ≡ rename keep gone y → (x ≡ y) ⊎ Joins (record { a = x; b = y }) gone keep
 made-one keep gone x y = by-eqb (λ b. cond b keep x ≡ rename keep gone y → Either) x gone
     (λ p. by-eqb (λ c. keep ≡ cond c keep y → Either) y gone (λ q s. inl (p ∙ sym q)) (λ n s. inr (inl (p, sym s))))
@@ -157,77 +88,108 @@ made-one keep gone x y = by-eqb (λ b. cond b keep x ≡ rename keep gone y → 
     Either : Type 0
     Either = (x ≡ y) ⊎ Joins (record { a = x; b = y }) gone keep
 
--- a link in the place of links i and j
-joined-loopless : (g : Network) → Loopless g → (i j : ℕ) (e : Link) → i < j → isLoop e ≡ false → Loopless (joined i j e g)
-joined-loopless g loopless i j e order h = none-found isLoop (joined i j e g .links) .1 (λ f m.
-    ⊎-elim (λ (q : f ≡ e). ap isLoop q ∙ h) (λ n. none-found isLoop (g .links) .0 loopless f (mem-delete j (g .links) (mem-delete i (deleteAt j (g .links)) n))) (mem-joined (g .links) i j order m))
-
-module _ (g : Network) (simple : Simple g) where
-  valid : Valid g
-  valid = simple .plain .valid
-
-  distinct : Distinct (g .links)
-  distinct = pairless-means (g .links) .0 (simple .pairless)
-
-  no-loop : Fails isLoop (g .links)
-  no-loop = none-found isLoop (g .links) .0 (simple .plain .loopless)
+module _ (g : Network) (loopless : Loopless g) where
+  no-loop : (e : Link) → List·Memᴰ e (g .links) → isLoop e ≡ false
+  no-loop = none-found isLoop (g .links) .0 loopless
 
   deleted-loopless : (i : ℕ) → Loopless (deleted i g)
   deleted-loopless i = none-found isLoop (deleteAt i (g .links)) .1 (λ e m. no-loop e (mem-delete i (g .links) m))
 
+  joined-loopless : (i j : ℕ) (e : Link) → i < j → isLoop e ≡ false → Loopless (joined i j e g)
+  joined-loopless i j e order h = none-found isLoop (joined i j e g .links) .1 (λ f m.
+      ⊎-elim (λ (q : f ≡ e). ap isLoop q ∙ h) (λ n. no-loop f (mem-delete j (g .links) (mem-delete i (deleteAt j (g .links)) n))) (mem-joined (g .links) i j order m))
+
+module _ (g : Network) (simple : Simple g) where
+  abbrev plain : Plain g
+  plain = simple .plain
+
+  distinct : Distinct (g .links)
+  distinct = no-pair (g .links) .0 (simple .pairless)
+
   deleted-pairless : (i : ℕ) → Pairless (deleted i g)
-  deleted-pairless i = pairless-means (deleteAt i (g .links)) .1 (distinct-delete (g .links) i distinct)
+  deleted-pairless i = no-pair (deleteAt i (g .links)) .1 (distinct-delete (g .links) i distinct)
 
   pub deleted-simple : (i : ℕ) → Connected (deleted i g) → Simple (deleted i g)
-  deleted-simple i c = record { plain = record { valid = deleted-valid g valid i; loopless = deleted-loopless i; connected = c }; pairless = deleted-pairless i }
+  deleted-simple i c = record {
+    plain = record { valid = deleted-valid g (plain .valid) i; loopless = deleted-loopless g (plain .loopless) i; connected = c };
+    pairless = deleted-pairless i;
+  }
 
   pub end-simple : (v i : ℕ) → AtEnd g v i → Simple (removed v (deleted i g))
   end-simple v i h = record {
     plain = record {
-      valid = removed-valid (deleted i g) (deleted-valid g valid i) v (h .others);
-      loopless = deleted-loopless i;
-      connected = end-connected g valid v i h (simple .plain .connected);
+      valid = removed-valid (deleted i g) (deleted-valid g (plain .valid) i) v (h .others);
+      loopless = deleted-loopless g (plain .loopless) i;
+      connected = end-connected g (plain .valid) v i h (plain .connected);
     };
     pairless = deleted-pairless i;
   }
 
-  -- a loop would be of a partner of link i
-  pub contracted-plain : (i : ℕ) → AtSplit g i → Plain (contracted (linkAt g i) (deleted i g))
-  contracted-plain i h = record {
-    valid = contracted-valid (deleted i g) (deleted-valid g valid i) e (proper-at g valid i (h .place)) (h .differ);
-    loopless = none-found isLoop (contracted e (deleted i g) .links) .1 (λ f m.
-        let (k, n, q) = Memᴰ·of-map (renamed keep gone) (deleteAt i (g .links)) m in
-        ap isLoop (sym q) ∙ ne-eqb (rename keep gone (k .a)) (rename keep gone (k .b)) (λ same. ⊎-elim (unlooped k n) (distinct-at (g .links) i distinct (h .place) n gone keep (larger-smaller e)) (made-one keep gone (k .a) (k .b) same)));
-    connected = contracted-connected g valid i h (simple .plain .connected);
-  }
-    where
-      e : Link
-      e = linkAt g i
+  -- only a partner of link i would become a loop
+  module _ (i : ℕ) (h : AtSplit g i) where
+    abbrev keep : ℕ
+    keep = min (linkAt g i .a) (linkAt g i .b)
 
-      keep : ℕ
-      keep = min (e .a) (e .b)
+    abbrev gone : ℕ
+    gone = max (linkAt g i .a) (linkAt g i .b)
 
-      gone : ℕ
-      gone = max (e .a) (e .b)
+    stay-two : (e : Link) → List·Memᴰ e (deleteAt i (g .links)) → rename keep gone (e .a) ≡ rename keep gone (e .b) → ⊥
+    stay-two e m same = ⊎-elim
+        (eqb-false (e .a) (e .b) (no-loop g (plain .loopless) e (mem-delete i (g .links) m)))
+        (distinct-at (g .links) i distinct (h .place) m gone keep (larger-smaller (linkAt g i)))
+        (made-one keep gone (e .a) (e .b) same)
 
-      unlooped : (k : Link) → List·Memᴰ k (deleteAt i (g .links)) → k .a ≡ k .b → ⊥
-      unlooped k n = eqb-false (k .a) (k .b) (no-loop k (mem-delete i (g .links) n))
+    pub contracted-plain : Plain (contracted (linkAt g i) (deleted i g))
+    contracted-plain = record {
+      valid = contracted-valid (deleted i g) (deleted-valid g (plain .valid) i) (linkAt g i) (proper-at g (plain .valid) i (h .place)) (h .differ);
+      loopless = none-found isLoop (contracted (linkAt g i) (deleted i g) .links) .1 (λ f m.
+          let (e, n, q) = Memᴰ·of-map (renamed keep gone) (deleteAt i (g .links)) m in
+          ap isLoop (sym q) ∙ ne-eqb (rename keep gone (e .a)) (rename keep gone (e .b)) (stay-two e n));
+      connected = contracted-connected g (plain .valid) i h (plain .connected);
+    }
 
-  -- a loop would need that both links have one neighbour of v
-  pub series-plain : (v i j : ℕ) → AtSeries g v i j → Plain (removed v (joined i j (inSeries v (linkAt g i) (linkAt g j)) g))
-  unfolding leaves
-  series-plain v i j h =
-      let e = linkAt g i in
-      let f = linkAt g j in
-      let there : List·Memᴰ e (deleteAt j (g .links)) = Memᴰ·cast (sym (getD-delete (g .links) i j _ (h .order))) (getD-mem (deleteAt j (g .links)) _ (omega (arith, length-delete (g .links) (h .place)))) in
-      record {
-        valid = left-by (length (g .links) - 1) g (record { valid = valid; size = omega (arith, h .place) }) (Series v i j) h .0 .valid;
-        loopless = joined-loopless g (simple .plain .loopless) i j (inSeries v e f) (h .order) (ne-eqb (across v e) (across v f) (λ same.
-            distinct-at (g .links) j distinct (h .place) there v (across v f) (h .second .joins) (rw same at (h .first .joins))));
-        connected = series-connected g valid v i j h (simple .plain .connected);
-      }
+  -- the neighbours of v differ: links i and j are no pair
+  module _ (v i j : ℕ) (h : AtSeries g v i j) where
+    neighbours-differ : across v (linkAt g i) ≡ across v (linkAt g j) → ⊥
+    neighbours-differ same =
+        let there = getD-mem {i = i} (deleteAt j (g .links)) _ (omega (arith, h .order, length-delete (g .links) (h .place))) in
+        distinct-at (g .links) j distinct (h .place) (Memᴰ·cast (sym (getD-delete (g .links) i j _ (h .order))) there) v (across v (linkAt g j)) (h .second .joins) (rw same at (h .first .joins))
 
--- ---- all pairs as one
+    pub series-plain : Plain (removed v (joined i j (inSeries v (linkAt g i) (linkAt g j)) g))
+    unfolding leaves
+    series-plain = record {
+      valid = left-by (length (g .links) - 1) g (record { valid = plain .valid; size = omega (arith, h .place) }) (Series v i j) h .0 .valid;
+      loopless = joined-loopless g (plain .loopless) i j (inSeries v (linkAt g i) (linkAt g j)) (h .order) (ne-eqb (across v (linkAt g i)) (across v (linkAt g j)) neighbours-differ);
+      connected = series-connected g (plain .valid) v i j h (plain .connected);
+    }
+
+-- ---- step 4 as often as it fits
+
+module _ (g : Network) (i j : ℕ) (found : firstPair (g .links) ≡ some (i, j)) where
+  pub pair-at : AtPair g i j
+  pair-at = at-pair g (i, j) (subst (Answers (Pair (g .links)) (Distinct (g .links))) found (first-pair (g .links)))
+
+  pub pair-fewer : suc (length (sideBySide i j g .links)) ≡ length (g .links)
+  pair-fewer =
+      let e = inParallel (linkAt g i) (linkAt g j) in
+      length-delete (set (g .links) i e) (lt-length-set (g .links) i e (pair-at .place)) ∙ length-set (g .links) i e
+
+  pub unpaired-here : unpaired g ≡ unpaired (sideBySide i j g)
+  unfolding joinedPairs
+  unpaired-here = ap (λ m. joinedPairs m g) (sym pair-fewer) ∙ rw (found, joinedPairs)
+
+pub pair-valid : (g : Network) → Valid g → (i j : ℕ) → firstPair (g .links) ≡ some (i, j) → Valid (sideBySide i j g)
+pair-valid g valid i j found =
+    let p = pair-at g i j found in
+    joined-valid g valid i j _ (p .order) (parallel-proper (g .nodes) (linkAt g i) (linkAt g j) (proper-at g valid i (omega arith)) (proper-at g valid j (p .place)))
+
+pub unpaired-none : (g : Network) → Pairless g → unpaired g ≡ g
+unfolding joinedPairs
+unpaired-none g pairless = go (length (g .links))
+  where
+    go : (m : ℕ) → joinedPairs m g ≡ g
+    go zero = refl
+    go (suc m) = rw (pairless, joinedPairs)
 
 -- what holds without a pair, and with a pair where it holds with that pair as one, holds of every network
 by-pairs : (P : Network → Type 0) → ((g : Network) → Pairless g → P g) → ((g : Network) (i j : ℕ) → firstPair (g .links) ≡ some (i, j) → P (sideBySide i j g) → P g) → (g : Network) → P g
@@ -243,7 +205,7 @@ by-pairs P base step g = go (length (g .links)) g (le-refl (length (g .links))) 
 
 pub unpaired-fewer : (g : Network) → length (unpaired g .links) ≤ length (g .links)
 unpaired-fewer = by-pairs (λ g. length (unpaired g .links) ≤ length (g .links))
-    (λ g no-pair. le-of-eq (ap (λ (h : Network). length (h .links)) (unpaired-none g no-pair)))
+    (λ g pairless. le-of-eq (ap (λ (h : Network). length (h .links)) (unpaired-none g pairless)))
     (λ g i j pair fewer. omega (arith, fewer, pair-fewer g i j pair, ap (λ (h : Network). length (h .links)) (unpaired-here g i j pair)))
 
 -- two nodes that differ are two nodes at least
@@ -253,14 +215,17 @@ two-nodes (v ∷ []) m n differ = absurd (differ (List·Memᴰ·eq-of-singleton 
 two-nodes (v ∷ (w ∷ vs)) m n differ = omega arith
 
 module _ (g : Network) (plain : Plain g) (i j : ℕ) (pair : firstPair (g .links) ≡ some (i, j)) where
+  first-place : i < length (g .links)
+  first-place = let at = pair-at g i j pair in omega arith
+
   unlooped : isLoop (linkAt g i) ≡ false
-  unlooped = none-found isLoop (g .links) .0 (plain .loopless) (linkAt g i) (getD-mem (g .links) _ (let p = pair-at g i j pair in omega arith))
+  unlooped = no-loop g (plain .loopless) (linkAt g i) (getD-mem (g .links) _ first-place)
 
   pub pair-plain : Plain (sideBySide i j g)
   pair-plain =
       let at = pair-at g i j pair in
       record {
-        valid = pair-valid g i j pair (plain .valid);
+        valid = pair-valid g (plain .valid) i j pair;
         loopless = joined-loopless g (plain .loopless) i j (inParallel (linkAt g i) (linkAt g j)) (at .order) unlooped;
         connected = pair-connected g i j at (plain .connected);
       }
@@ -268,20 +233,20 @@ module _ (g : Network) (plain : Plain g) (i j : ℕ) (pair : firstPair (g .links
   -- step 4 fits: there are two nodes
   pair-next : next g ≡ Parallel i j
   pair-next =
-      let p = proper-at g (plain .valid) i (let at = pair-at g i j pair in omega arith) in
+      let p = proper-at g (plain .valid) i first-place in
       let two = two-nodes (g .nodes) (p .a-node) (p .b-node) (eqb-false (linkAt g i .a) (linkAt g i .b) unlooped) in
       step-by-connection (chosen g) g ∙ rw (plain .loopless, lt-leb (length (g .nodes)) 1 two, plain .connected, pair)
 
-  pair-figure : (limit : ℕ) → figure (sideBySide i j g) limit ≡ figure g limit
+  pub pair-figure : (limit : ℕ) → figure (sideBySide i j g) limit ≡ figure g limit
   unfolding leaves
   pair-figure limit = figure-rest g (plain .valid) limit (sideBySide i j g) (ap (leaves g) pair-next)
 
 pub unpaired-simple : (g : Network) → Plain g → Simple (unpaired g)
 unpaired-simple = by-pairs (λ g. Plain g → Simple (unpaired g))
-    (λ g no-pair plain. subst Simple (sym (unpaired-none g no-pair)) (record { plain = plain; pairless = no-pair }))
+    (λ g pairless plain. subst Simple (sym (unpaired-none g pairless)) (record { plain = plain; pairless = pairless }))
     (λ g i j pair later plain. subst Simple (sym (unpaired-here g i j pair)) (later (pair-plain g plain i j pair)))
 
 pub unpaired-figure : (g : Network) → Plain g → (limit : ℕ) → figure (unpaired g) limit ≡ figure g limit
 unpaired-figure = by-pairs (λ g. Plain g → (limit : ℕ) → figure (unpaired g) limit ≡ figure g limit)
-    (λ g no-pair plain limit. ap (λ h. figure h limit) (unpaired-none g no-pair))
+    (λ g pairless plain limit. ap (λ h. figure h limit) (unpaired-none g pairless))
     (λ g i j pair later plain limit. ap (λ h. figure h limit) (unpaired-here g i j pair) ∙ later (pair-plain g plain i j pair) limit ∙ pair-figure g plain i j pair limit)

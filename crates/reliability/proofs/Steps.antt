@@ -2,14 +2,14 @@
 use Prim.Native.Nat.{ℕ, _≤_, _<_, zero-le, suc-le-suc}
 use mathlib.Core.Path.{_≡_, refl, sym, ap, _∙_}
 use mathlib.Core.List.{List, [], _∷_, map, List·Memᴰ, List·Memᴰ·head}
-use mathlib.Core.Bool.{Bool, true, false, cond, not, _&&_, _||_, true≢false, and-eq-true-iff}
+use mathlib.Core.Bool.{Bool, true, false, cond, not, _&&_, _||_, true≢false, and-eq-true-iff, or-true as or-true-right}
 use mathlib.Core.Logic.{_⊎_, inl, inr, ⊎-map}
 use mathlib.Core.Option.{Option, some, none, Option·map}
 use native.Mathlib.Nat.{not-suc-le-zero}
 use native.Mathlib.Omega.{arith}
 use lib.Dec.{eqb, leb}
 use lib.ListN.{length}
-use borrow.Author.Tests.{eqb-true, eqb-false, leb-true, leb-false}
+use borrow.Author.Tests.{eqb-true, eqb-false, eq-eqb, leb-true, leb-false}
 use Rattle.reliability.specs.declared.Link.{Link}
 use Rattle.reliability.specs.declared.Step.{Step}
 use Rattle.reliability.specs.declared.Step.the-variants.{OneNode, Disconnected, Loop, Parallel, End, Series, Split}
@@ -18,7 +18,7 @@ use Rattle.reliability.specs.Rule.{isLoop, touches, alike, firstAt, firs
 use Rattle.reliability.proofs.Lists.{or-true, getD-mem}
 use Rattle.reliability.proofs.Pieces.{one-piece}
 use Rattle.reliability.proofs.Lawful.{View, Place}
-use Rattle.reliability.proofs.Searches.{Answers, Holds, Fails, first-at, Placed, Pair, first-pair, lowest-of}
+use Rattle.reliability.proofs.Searches.{Answers, Holds, Fails, first-at, Placed, Pair, Distinct, first-pair, lowest-of}
 use Rattle.reliability.proofs.States.{Joins, Off}
 
 -- e joins v to another node
@@ -72,6 +72,16 @@ pub alike-joins : (e f : Link) → alike e f ≡ true → Joins (ends f) (e .a) 
 alike-joins e f h =
     ⊎-map (λ k. let q = both (e .a) (f .a) (e .b) (f .b) k in (sym (q .0), sym (q .1))) (λ k. let q = both (e .a) (f .b) (e .b) (f .a) k in (sym (q .1), sym (q .0)))
     (or-true (eqb (e .a) (f .a) && eqb (e .b) (f .b)) (eqb (e .a) (f .b) && eqb (e .b) (f .a)) h)
+
+-- two links that join the same two nodes are alike
+pub joins-alike : (e f : Link) (v w : ℕ) → Joins (ends e) v w → Joins (ends f) v w → alike e f ≡ true
+joins-alike e f v w (inl p) (inl q) = rw (p .0, p .1, q .0, q .1, eq-eqb v v refl, eq-eqb w w refl)
+joins-alike e f v w (inl p) (inr q) = rw (p .0, p .1, q .0, q .1, eq-eqb v v refl, eq-eqb w w refl) (or-true-right (eqb v w && eqb w v))
+joins-alike e f v w (inr p) (inl q) = rw (p .0, p .1, q .0, q .1, eq-eqb v v refl, eq-eqb w w refl) (or-true-right (eqb w v && eqb v w))
+joins-alike e f v w (inr p) (inr q) = rw (p .0, p .1, q .0, q .1, eq-eqb v v refl, eq-eqb w w refl)
+
+pub at-pair : (g : Network) (ij : ℕ × ℕ) → Pair (g .links) ij → AtPair g (ij .0) (ij .1)
+at-pair g ij p = record { order = p .order; place = p .place; alike = alike-joins (linkAt g (ij .0)) (linkAt g (ij .1)) (p .test) }
 
 pub touches-leg : (v : ℕ) (e : Link) → touches v e ≡ true → isLoop e ≡ false → Leg v e
 touches-leg v e h l = let k = go (eqb (e .a) v) refl h in record { joins = k .0; differ = k .1 }
@@ -159,7 +169,7 @@ fits-by : (g : Network) → Valid g → (i : ℕ) → Place view g i
     → (loop : Option ℕ) → Answers (Holds isLoop (g .links)) (Fails isLoop (g .links)) loop
     → (one : Bool) → leb (length (g .nodes)) 1 ≡ one
     → (whole : Bool) → eqb (piecesOf g) 1 ≡ whole
-    → (pair : Option (ℕ × ℕ)) → Answers (Pair (g .links)) (Unit {0}) pair
+    → (pair : Option (ℕ × ℕ)) → Answers (Pair (g .links)) (Distinct (g .links)) pair
     → (end : Option Step) → (Fails isLoop (g .links) → FitsIf g end)
     → (series : Option Step) → (Fails isLoop (g .links) → FitsIf g series)
     → Fits g (inTurn loop one whole pair end series i)
@@ -167,8 +177,7 @@ fits-by g valid k at (some i) l one o whole w pair p end e series s =
     record { place = l .place; same = eqb-true (linkAt g i .a) (linkAt g i .b) (l .test) }
 fits-by g valid k at none l true o whole w pair p end e series s = leb-true (length (g .nodes)) 1 o
 fits-by g valid k at none l false o false w pair p end e series s = whole-by g o false w
-fits-by g valid k at none l false o true w (some ij) p end e series s =
-    record { order = p .order; place = p .place; alike = alike-joins (linkAt g (ij .0)) (linkAt g (ij .1)) (p .test) }
+fits-by g valid k at none l false o true w (some ij) p end e series s = at-pair g ij p
 fits-by g valid k at none l false o true w none p (some t) e series s = e l
 fits-by g valid k at none l false o true w none p none e (some t) s = s l
 fits-by g valid k at none l false o true w none p none e none s = at-split g l (g .nodes) (valid .ascending) (leb-false (length (g .nodes)) 1 o) (whole-by g o true w) k at
