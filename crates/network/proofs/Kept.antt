@@ -1,26 +1,29 @@
 -- The invariant, kept by what the network becomes.
 use Prim.Native.Nat.{ℕ, _<_}
-use mathlib.Core.Path.{_≡_, sym, ap, subst, _∙_}
+use mathlib.Core.Path.{_≡_, sym, ap, ap₂, subst, _∙_}
+use mathlib.Core.Logic.{⊎-elim}
 use mathlib.Core.List.{List, List·Memᴰ}
-use mathlib.Core.Bool.{Bool, true, false, _&&_}
+use mathlib.Core.Bool.{Bool, true, false, cond, not, _&&_, or-comm}
+use native.Mathlib.Omega.{arith}
+use lib.Dec.{eqb}
 use lib.ListN.{getD, set, replicate, getD-replicate, length-replicate}
-use borrow.Author.Tests.{eqb-false}
+use borrow.Author.Tests.{eqb-false, ne-eqb}
 use Rattle.reliability.specs.declared.Step.{Step}
 use Rattle.reliability.specs.declared.Step.the-variants.{End, Series}
 use Rattle.reliability.specs.declared.Link.{Link}
 use Rattle.reliability.specs.Networks.{Network as Graph, Valid, Proper}
-use Rattle.reliability.specs.Rule.{isLoop, next, leaves, deleted, removed, joined, inSeries, contracted}
+use Rattle.reliability.specs.Rule.{isLoop, next, leaves, deleted, removed, joined, inSeries, across, contracted}
 use Rattle.reliability.proofs.Validity.{proper-at, deleted-valid, contracted-valid}
-use Rattle.reliability.proofs.Steps.{Fits, fits}
+use Rattle.reliability.proofs.Steps.{Fits, fits, Leg, AtSeries}
 use Rattle.reliability.proofs.Unrolled.{below-scaled}
 use Rattle.bits.specs.Members.{members}
 use Rattle.search.specs.Searches.{touching, Incidence}
-use Rattle.search.proofs.Sets.{has, has-none, has-below, mem-has}
+use Rattle.search.proofs.Sets.{has, has-none, has-without, has-below, mem-has}
 use Rattle.tallies.specs.Tallies.{Written}
-use Rattle.tallies.proofs.Laws.{counted, taken, added}
+use Rattle.tallies.proofs.Laws.{counted, taken, added, turned}
 use Rattle.network.specs.declared.Network.{Network}
 use Rattle.network.specs.Places.{networkOf, nodesOf, indexOf, linkOf, Used, Invariant, Built, ranked, Fitting}
-use Rattle.network.proofs.Picks.{Sized, index-within, built-free}
+use Rattle.network.proofs.Picks.{Sized, rowAt, link-at, index-within, built-free}
 use Rattle.network.proofs.Ends.{bounded}
 
 -- r stands for g, which is valid, and its tallies are right
@@ -77,3 +80,35 @@ pub put-into : (n : Network) → Sized n → Invariant n → (k : ℕ) → Built
     → Written true x k (n .at) one → Written true y k one two → Incidence two more (set (n .a) k x) (set (n .b) k y)
 put-into n sized holds k built below x y more one two =
     added (n .at) (n .a) (n .b) (n .alive) (record { a-length = sized .a-length; b-length = sized .b-length }) (holds .tallies) k more x y one two below (built-free n k built)
+
+-- the other end of a link
+pub across-below : (v a b : ℕ) {w : ℕ} → (a < 32) × (b < 32) → w ≡ cond (eqb a v) b a → w < 32
+across-below v a b {w} h e = go (eqb a v) e
+  where
+    go : (t : Bool) → w ≡ cond t b a → w < 32
+    go true e = omega (arith, h)
+    go false e = omega (arith, h)
+
+-- link i from v goes to v's other neighbour, across link j, which goes
+module _ (n : Network) (sized : Sized n) (holds : Invariant n) (v i j : ℕ) (fitting : Fitting n (Series v i j)) where
+  at-series : AtSeries (networkOf n) v (indexOf n i) (indexOf n j)
+  unfolding ranked
+  at-series = known n holds (Series v i j) fitting
+
+  leg : Leg v (rowAt n i)
+  leg = subst (Leg v) (link-at n sized i (fitting .placed .1)) (at-series .first)
+
+  -- the ends of link i are v and its neighbour
+  both-ways : (u : ℕ) → touching u (getD (n .a) i 0) (getD (n .b) i 0) ≡ touching u v (across v (rowAt n i))
+  both-ways u = ⊎-elim (λ q. ap₂ (touching u) (q .0) (q .1)) (λ q. ap₂ (touching u) (q .0) (q .1) ∙ or-comm (eqb (across v (rowAt n i)) u) (eqb v u)) (leg .joins)
+
+  pub turned-over : (one two three four : List ℕ) (x : ℕ) → x ≡ across v (rowAt n i) → {y : ℕ} (others : ℕ) → members others ≡ set (members (n .alive)) j false
+      → Written false (getD (n .a) j 0) j (n .at) one → Written false (getD (n .b) j 0) j one two → Written false v i two three → Written true y i three four
+      → Incidence four others (set (n .a) i x) (set (n .b) i y)
+  turned-over one two three four x e {y} others cleared first second third fourth =
+      let u = fitting .placed .1 in
+      let w = fitting .placed .2 in
+      let apart : i ≡ j → ⊥ = λ q. omega (arith, at-series .order, ap (indexOf n) q) in
+      let used : has others i ≡ true = has-without others (n .alive) j cleared (w .below) i ∙ ap₂ (λ (s t : Bool). not s && t) (ne-eqb i j apart) (u .used) in
+      turned two (n .a) (n .b) others (record { a-length = sized .a-length; b-length = sized .b-length }) (taken-out n sized holds j w others one two cleared first second)
+      i v x y three four (u .below) used (λ t. both-ways t ∙ ap (touching t v) (sym e)) (λ q. leg .differ (sym e ∙ sym q)) third fourth

@@ -197,14 +197,14 @@ impl Network {
         let b = across(v as u8, self.a[j], self.b[j]);
         let x = self.a[j];
         let y = self.b[j];
-        tallies::take_out(&mut self.at, x, j);
-        tallies::take_out(&mut self.at, y, j);
-        tallies::take_out(&mut self.at, v as u8, i);
-        tallies::put_in(&mut self.at, b, i);
         self.a[i] = a;
         self.b[i] = b;
         self.low[i] = low;
         self.high[i] = high;
+        tallies::take_out(&mut self.at, x, j);
+        tallies::take_out(&mut self.at, y, j);
+        tallies::take_out(&mut self.at, v as u8, i);
+        tallies::put_in(&mut self.at, b, i);
         let nodes = without_node(self.nodes, v);
         let alive = bits::without(self.alive, j);
         self.nodes = nodes;

@@ -18,17 +18,17 @@ use Rattle.tallies.specs.Tallies.{Written, Merged, changedAt}
 
 -- a set is written at node x
 pub written : (b : Bool) (at : List ℕ) (x k s : ℕ) → x < length at → members s ≡ set (members (getD at x 0)) k b → Written b x k at (set at x s)
-written b at x k s h e = (
-  length-set at x s,
-  λ v. by-eqb (λ t. members (getD (set at x s) v 0) ≡ cond t (set (members (getD at v 0)) k b) (members (getD at v 0))) x v
+written b at x k s h e = record {
+  size = length-set at x s;
+  sets = λ v. by-eqb (λ t. members (getD (set at x s) v 0) ≡ cond t (set (members (getD at v 0)) k b) (members (getD at v 0))) x v
       (λ q. rw (← q) (ap members (getD-set-same at x s 0 h) ∙ e))
-      (λ n. ap members (getD-set-other at x v s 0 (λ q. n (sym q)))),
-)
+      (λ n. ap members (getD-set-other at x v s 0 (λ q. n (sym q))));
+}
 
 -- what is then in the set at v
 pub has-written : (b : Bool) (x k : ℕ) (at after : List ℕ) → k < 64 → Written b x k at after
     → (v p : ℕ) → has (getD after v 0) p ≡ cond (eqb x v && eqb p k) b (has (getD at v 0) p)
-has-written b x k at after h w v p = ap (λ (us : List Bool). getD us p false) (w .1 v) ∙ go (eqb x v)
+has-written b x k at after h w v p = ap (λ (us : List Bool). getD us p false) (w .sets v) ∙ go (eqb x v)
   where
     go : (t : Bool) → getD (cond t (set (members (getD at v 0)) k b) (members (getD at v 0))) p false ≡ cond (t && eqb p k) b (has (getD at v 0) p)
     go true = by-eqb (λ c. getD (set (members (getD at v 0)) k b) p false ≡ cond c b (has (getD at v 0) p)) p k
@@ -39,19 +39,19 @@ has-written b x k at after h w v p = ap (λ (us : List Bool). getD us p false) (
 -- the sets of two nodes are merged
 pub merged : (at : List ℕ) (keep gone s : ℕ) → keep < length at → gone < length at
     → members s ≡ either (members (getD at keep 0)) (members (getD at gone 0)) → Merged keep gone at (set (set at keep s) gone 0)
-merged at keep gone s hk hg e = (
-  length-set (set at keep s) gone 0 ∙ length-set at keep s,
-  λ v. by-eqb (λ t. members (getD (set (set at keep s) gone 0) v 0) ≡ cond t (members 0) (cond (eqb v keep) (either (members (getD at keep 0)) (members (getD at gone 0))) (members (getD at v 0)))) v gone
+merged at keep gone s hk hg e = record {
+  size = length-set (set at keep s) gone 0 ∙ length-set at keep s;
+  sets = λ v. by-eqb (λ t. members (getD (set (set at keep s) gone 0) v 0) ≡ cond t (members 0) (cond (eqb v keep) (either (members (getD at keep 0)) (members (getD at gone 0))) (members (getD at v 0)))) v gone
       (λ q. rw q (ap members (getD-set-same (set at keep s) gone 0 0 (lt-length-set at keep s hg))))
       (λ n. ap members (getD-set-other (set at keep s) gone v 0 0 n)
       ∙ by-eqb (λ t. members (getD (set at keep s) v 0) ≡ cond t (either (members (getD at keep 0)) (members (getD at gone 0))) (members (getD at v 0))) v keep
       (λ q. rw q (ap members (getD-set-same at keep s 0 hk) ∙ e))
-      (λ m. ap members (getD-set-other at keep v s 0 m))),
-)
+      (λ m. ap members (getD-set-other at keep v s 0 m)));
+}
 
 pub has-merged : (keep gone : ℕ) (at after : List ℕ) → Merged keep gone at after
     → (v p : ℕ) → has (getD after v 0) p ≡ cond (eqb v gone) false (cond (eqb v keep) (has (getD at keep 0) p || has (getD at gone 0) p) (has (getD at v 0) p))
-has-merged keep gone at after w v p = ap (λ (us : List Bool). getD us p false) (w .1 v) ∙ go (eqb v gone) (eqb v keep)
+has-merged keep gone at after w v p = ap (λ (us : List Bool). getD us p false) (w .sets v) ∙ go (eqb v gone) (eqb v keep)
   where
     go : (s t : Bool) → getD (cond s (members 0) (cond t (either (members (getD at keep 0)) (members (getD at gone 0))) (members (getD at v 0)))) p false
         ≡ cond s false (cond t (has (getD at keep 0) p || has (getD at gone 0) p) (has (getD at v 0) p))

@@ -77,7 +77,7 @@ two-ends keep gone differ a b v =
     go false true false false x₁ y₁ z z₁ = refl
 
 -- a link that does not touch gone keeps its ends
-renamed-touching : (keep gone a b : ℕ) (t : Bool) → touching gone a b ≡ t → (cond t (rename keep gone a) a ≡ rename keep gone a) × (cond t (rename keep gone b) b ≡ rename keep gone b)
+pub renamed-touching : (keep gone a b : ℕ) (t : Bool) → touching gone a b ≡ t → (cond t (rename keep gone a) a ≡ rename keep gone a) × (cond t (rename keep gone b) b ≡ rename keep gone b)
 renamed-touching keep gone a b true e = (refl, refl)
 renamed-touching keep gone a b false e = let h = neither (eqb a gone) (eqb b gone) e in (ap (λ (t : Bool). cond t keep a) (sym (h .0)), ap (λ (t : Bool). cond t keep b) (sym (h .1)))
   where

@@ -1,6 +1,14 @@
+use mathlib.Core.Path.{_∙_}
+use native.Mathlib.Omega.{arith}
+use Rattle.network.proofs.Picks.{Sized}
+use Rattle.network.proofs.Kept.{ends-below}
+use Rattle.network.proofs.Merging.{keep-below, gone-below, contracts}
 use borrow.Author.Needs.{needs}
 use Rattle.network.proofs.Network.contracted.Statement.{statement}
 use Rattle.network.proofs.Network.contracted.Tie as tie
+
+sized : (c : tie.Start) → Sized (c .args .t1)
+sized c = search needs
 
 element-copy-out-x : tie.Need-element-copy-out-x
 element-copy-out-x c = search needs
@@ -15,13 +23,21 @@ higher-requires : tie.Need-higher-requires
 higher-requires c κs = search needs
 
 take-out-requires : tie.Need-take-out-requires
-take-out-requires c κs = ?
+take-out-requires c κs =
+    let s = c .before .before .before .before .before in
+    (sized s .at-length, ends-below (s .args .t1) (sized s) (s .pre .0) (s .args .i) (s .pre .1) .0, s .pre .1 .below)
 
 take-out-requires-2 : tie.Need-take-out-requires-2
-take-out-requires-2 c κs = ?
+take-out-requires-2 c κs =
+    let s = c .before .before .before .before .before .before .before in
+    (c .before .take-out .ensures .size ∙ sized s .at-length, ends-below (s .args .t1) (sized s) (s .pre .0) (s .args .i) (s .pre .1) .1, s .pre .1 .below)
 
 merge-requires : tie.Need-merge-requires
-merge-requires c κs = ?
+merge-requires c κs =
+    let s = c .before .before .before .before .before .before .before .before .before in
+    let h = c .before .before .before .before .before in
+    let e = ends-below (s .args .t1) (sized s) (s .pre .0) (s .args .i) (s .pre .1) in
+    (c .before .take-out2 .ensures .size ∙ c .before .before .before .take-out .ensures .size ∙ sized s .at-length, omega (arith, e, h .before .lower .ensures), omega (arith, e, h .higher .ensures))
 
 rename-requires : tie.Need-rename-requires
 rename-requires c κs = search needs
@@ -33,13 +49,26 @@ cast-without-node : tie.Need-cast-without-node
 cast-without-node c = search needs
 
 without-node-requires : tie.Need-without-node-requires
-without-node-requires c κs = ?
+without-node-requires c κs =
+    let s = c .before .before .before .before .before .before .before .before .before .before .before .before .before .before in
+    let e = ends-below (s .args .t1) (sized s) (s .pre .0) (s .args .i) (s .pre .1) in
+    omega (arith, e, c .before .before .before .before .before .before .before .before .before .before .higher .ensures)
 
 without-requires : tie.Need-without-requires
 without-requires c κs = search needs
 
 returns : tie.Need-returns
-returns c = ?
+returns c =
+    let y = c .before .before .rename2 in
+    let x = c .before .before .before .before .rename in
+    let m = c .before .before .before .before .before .before .merge in
+    let two = c .before .before .before .before .before .before .before .before .take-out2 in
+    let one = c .before .before .before .before .before .before .before .before .before .before .take-out in
+    let higher = c .before .before .before .before .before .before .before .before .before .before .before .before .higher in
+    let lower = c .before .before .before .before .before .before .before .before .before .before .before .before .before .lower in
+    let s = c .before .before .before .before .before .before .before .before .before .before .before .before .before .before .before .before in
+    contracts (s .args .t1) (sized s) (s .pre .0) (s .args .i) (s .pre .1) (s .pre .2) (lower .result) (higher .result) (lower .ensures) (higher .ensures) (c .without .result) (c .before .without-node .result) (m .result) _ _ _ _ _
+    (c .without .ensures) (c .before .without-node .ensures) (one .ensures) (two .ensures) (m .ensures .0) (m .ensures .1) (x .ensures) (y .ensures)
 
 pub contracted-spec : {M : Type 1} → statement M
 contracted-spec =

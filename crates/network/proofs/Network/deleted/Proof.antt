@@ -25,7 +25,7 @@ take-out-requires-2 : tie.Need-take-out-requires-2
 take-out-requires-2 c κs =
     let t = c .before .take-out in
     let s = c .before .before .before .before .before in
-    (t .ensures .0 ∙ sized s .at-length, ends-below (s .args .t1) (sized s) (s .pre .0) (s .args .i) (s .pre .1) .1, s .pre .1 .below)
+    (t .ensures .size ∙ sized s .at-length, ends-below (s .args .t1) (sized s) (s .pre .0) (s .args .i) (s .pre .1) .1, s .pre .1 .below)
 
 without-requires : tie.Need-without-requires
 without-requires c κs = search needs

@@ -25,7 +25,7 @@ take-out-requires-2 c κs =
     let t = c .before .take-out in
     let s = c .before .before .before .before .before in
     let u = s .pre .1 .placed .1 in
-    (t .ensures .0 ∙ sized s .at-length, ends-below (s .args .t1) (sized s) (s .pre .0) (s .args .i) u .1, u .below)
+    (t .ensures .size ∙ sized s .at-length, ends-below (s .args .t1) (sized s) (s .pre .0) (s .args .i) u .1, u .below)
 
 without-node-requires : tie.Need-without-node-requires
 without-node-requires c κs = search needs

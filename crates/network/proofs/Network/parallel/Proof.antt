@@ -1,53 +1,94 @@
+use mathlib.Core.Path.{_≡_, refl, sym, _∙_}
+use Rattle.rounding.specs.declared.Direction.the-variants.{Down, Up}
+use lib.ListN.{length}
+use Rattle.search.specs.declared.Pair.the-variants.{Both}
+use Rattle.search.specs.Searches.{placesIn, beside, pairIn}
+use Rattle.network.specs.Places.{linksOf, Used}
+use Rattle.network.proofs.Picks.{Sized, values-within}
+use Rattle.network.proofs.Ends.{bounded}
+use Rattle.network.proofs.Kept.{ends-below}
+use Rattle.network.proofs.Joining.{Joining, all-joined, both-used, joined-on, joined-fewer}
+use borrow.Author.Needs.{needs}
 use Rattle.network.proofs.Network.parallel.Statement.{statement}
 use Rattle.network.proofs.Network.parallel.Tie as tie
 
 abbrev Inv-loop : tie.InvT-loop
-Inv-loop self₀ self = ?
+Inv-loop self₀ self = Joining self₀ self
 
 abbrev μ-loop : tie.MeasureT-loop
-μ-loop self₀ self = ?
+μ-loop self₀ self = length (linksOf self)
 
 loop-holds : tie.Need-loop-holds Inv-loop μ-loop
-loop-holds c = ?
+loop-holds c = record { sized = search needs; holds = c .pre .0; plain = c .pre .1; same = refl }
 
 first-pair-requires : tie.Need-first-pair-requires Inv-loop μ-loop
-first-pair-requires c κs = ?
+first-pair-requires c κs =
+    let h = c .before .before .before .before .loop in
+    (bounded (h .self) (h .inv .sized) (h .inv .holds .valid), h .inv .holds .tallies)
 
 enum-known-i : tie.Need-enum-known-i Inv-loop μ-loop
-enum-known-i c = ?
+enum-known-i c = search needs
+
+-- the next pair
+abbrev turn : tie.After-known-told Inv-loop μ-loop → tie.At-loop Inv-loop μ-loop
+turn k = k .before .before .before .before .before .before .before .before
+
+found : (k : tie.After-known-told Inv-loop μ-loop) → let n = turn k .loop .self in let p = k .before .i .given .0 in pairIn (beside (n .a) (n .b)) (placesIn (n .alive)) ≡ Both (p .0) (p .1 .0)
+found k = sym (k .before .before .before .first-pair .ensures) ∙ k .before .i .given .1
+
+both : (k : tie.After-known-told Inv-loop μ-loop) → let p = k .before .i .given .0 in Used (turn k .loop .self) (p .0) × Used (turn k .loop .self) (p .1 .0)
+both k = both-used _ (turn k .loop .self) (turn k .loop .inv) _ _ (found k)
 
 join-requires : tie.Need-join-requires Inv-loop μ-loop
-join-requires c κs = ?
+join-requires c κs =
+    let k = c .before in
+    let u = both k in
+    let h = turn k .loop in
+    let w = values-within (h .self) (h .inv .sized) (h .inv .holds .valid) _ _ (u .0) (u .1) Down in
+    (h .inv .sized .low-length, u .0 .below, u .1 .below, w .0, w .1)
 
 join-requires-2 : tie.Need-join-requires-2 Inv-loop μ-loop
-join-requires-2 c κs = ?
+join-requires-2 c κs =
+    let k = c .before .before .before in
+    let u = both k in
+    let h = turn k .loop in
+    let w = values-within (h .self) (h .inv .sized) (h .inv .holds .valid) _ _ (u .0) (u .1) Up in
+    (h .inv .sized .high-length, u .0 .below, u .1 .below, w .0, w .1)
 
 element-copy-out-x : tie.Need-element-copy-out-x Inv-loop μ-loop
-element-copy-out-x c = ?
+element-copy-out-x c = both (c .before .before .before .before) .1 .below
 
 element-copy-out-y : tie.Need-element-copy-out-y Inv-loop μ-loop
-element-copy-out-y c = ?
+element-copy-out-y c = both (c .before .before .before .before .before) .1 .below
 
 take-out-requires : tie.Need-take-out-requires Inv-loop μ-loop
-take-out-requires c κs = ?
+take-out-requires c κs =
+    let k = c .before .before .before .before .before .before .before in
+    let h = turn k .loop in
+    let u = both k .1 in
+    (h .inv .sized .at-length, ends-below (h .self) (h .inv .sized) (h .inv .holds) _ u .0, u .below)
 
 take-out-requires-2 : tie.Need-take-out-requires-2 Inv-loop μ-loop
-take-out-requires-2 c κs = ?
+take-out-requires-2 c κs =
+    let k = c .before .before .before .before .before .before .before .before .before in
+    let h = turn k .loop in
+    let u = both k .1 in
+    (c .before .take-out .ensures .size ∙ h .inv .sized .at-length, ends-below (h .self) (h .inv .sized) (h .inv .holds) _ u .1, u .below)
 
 without-requires : tie.Need-without-requires Inv-loop μ-loop
-without-requires c κs = ?
+without-requires c κs = both (c .before .before .before .before .before .before .before .before .before .before) .1 .below
 
 loop-less : tie.Need-loop-less Inv-loop μ-loop
-loop-less c = ?
+loop-less c = let k = c .before .before .before .before .before .before .before .before .before .before .before in joined-fewer (turn k .before .args .t1) (turn k .loop .self) (turn k .loop .inv) _ _ (found k) (c .without .result) _ _ _ _ (c .without .ensures) (c .before .before .before .take-out .ensures) (c .before .take-out2 .ensures) (c .before .before .before .before .before .before .before .before .before .join .ensures) (c .before .before .before .before .before .before .before .join2 .ensures)
 
 loop-again : tie.Need-loop-again Inv-loop μ-loop
-loop-again c = ?
+loop-again c = let k = c .before .before .before .before .before .before .before .before .before .before .before in joined-on (turn k .before .args .t1) (turn k .loop .self) (turn k .loop .inv) _ _ (found k) (c .without .result) _ _ _ _ (c .without .ensures) (c .before .before .before .take-out .ensures) (c .before .take-out2 .ensures) (c .before .before .before .before .before .before .before .before .before .join .ensures) (c .before .before .before .before .before .before .before .join2 .ensures)
 
 enum-told : tie.Need-enum-told Inv-loop μ-loop
-enum-told c = ?
+enum-told c = search needs
 
 returns : tie.Need-returns Inv-loop μ-loop
-returns c = ?
+returns c = let f = c .before .before in all-joined _ _ (c .before .before .before .before .before .before .before .loop .inv) (sym (f .first-pair .ensures) ∙ c .enum-told .given .1)
 
 pub parallel-spec : {M : Type 1} → statement M
 parallel-spec =

@@ -1,6 +1,25 @@
+use Prim.Native.Nat.{_≤_, _<_}
+use mathlib.Core.Path.{_≡_, _∙_}
+use lib.ListN.{getD}
+use Rattle.rounding.specs.Rounding.{S}
+use Rattle.rounding.specs.declared.Direction.{Direction}
+use Rattle.rounding.specs.declared.Direction.the-variants.{Down, Up}
+use Rattle.reliability.specs.Networks.{value}
+use Rattle.reliability.specs.Rule.{inSeries}
+use Rattle.network.proofs.Picks.{Sized, all-even, row, rowAt, rows-set, values-within, joined-links}
+use Rattle.network.proofs.Kept.{stands, series-valid, ends-below, across-below, turned-over}
 use borrow.Author.Needs.{needs}
 use Rattle.network.proofs.Network.series.Statement.{statement}
 use Rattle.network.proofs.Network.series.Tie as tie
+
+sized : (c : tie.Start) → Sized (c .args .t1)
+sized c = search needs
+
+within : (c : tie.Start) (d : Direction) → (value d (rowAt (c .args .t1) (c .args .i)) ≤ S) × (value d (rowAt (c .args .t1) (c .args .j)) ≤ S)
+within c = values-within (c .args .t1) (sized c) (c .pre .0 .valid) (c .args .i) (c .args .j) (c .pre .1 .placed .1) (c .pre .1 .placed .2)
+
+ends : (c : tie.Start) → let n = c .args .t1 in let j = c .args .j in (getD (n .a) j 0 < 32) × (getD (n .b) j 0 < 32)
+ends c = ends-below (c .args .t1) (sized c) (c .pre .0) (c .args .j) (c .pre .1 .placed .2)
 
 mul-series : tie.Need-mul-series
 mul-series c = search needs
@@ -15,7 +34,7 @@ element-copy-out-series-2 : tie.Need-element-copy-out-series-2
 element-copy-out-series-2 c = search needs
 
 series-requires : tie.Need-series-requires
-series-requires c κs = ?
+series-requires c κs = within (c .before .before) Down
 
 mul-series-3 : tie.Need-mul-series-3
 mul-series-3 c = search needs
@@ -30,7 +49,7 @@ element-copy-out-series-4 : tie.Need-element-copy-out-series-4
 element-copy-out-series-4 c = search needs
 
 series-requires-2 : tie.Need-series-requires-2
-series-requires-2 c κs = ?
+series-requires-2 c κs = within (c .before .before .before .before .before) Up
 
 cast-across : tie.Need-cast-across
 cast-across c = search needs
@@ -62,47 +81,73 @@ element-copy-out-x c = search needs
 element-copy-out-y : tie.Need-element-copy-out-y
 element-copy-out-y c = search needs
 
+element-write-self : tie.Need-element-write-self
+element-write-self c = search needs
+
+element-write-self-2 : tie.Need-element-write-self-2
+element-write-self-2 c = search needs
+
+mul-self : tie.Need-mul-self
+mul-self c = search needs
+
+element-write-self-3 : tie.Need-element-write-self-3
+element-write-self-3 c = search needs
+
+mul-self-2 : tie.Need-mul-self-2
+mul-self-2 c = search needs
+
+element-write-self-4 : tie.Need-element-write-self-4
+element-write-self-4 c = search needs
+
 take-out-requires : tie.Need-take-out-requires
-take-out-requires c κs = ?
+take-out-requires c κs =
+    let s = c .before .before .before .before .before .before .before .before .before .before .before .before .before .before .before in
+    (sized s .at-length, ends s .0, s .pre .1 .placed .2 .below)
 
 take-out-requires-2 : tie.Need-take-out-requires-2
-take-out-requires-2 c κs = ?
+take-out-requires-2 c κs =
+    let s = c .before .before .before .before .before .before .before .before .before .before .before .before .before .before .before .before .before in
+    (c .before .take-out .ensures .size ∙ sized s .at-length, ends s .1, s .pre .1 .placed .2 .below)
 
 cast-take-out : tie.Need-cast-take-out
 cast-take-out c = search needs
 
 take-out-requires-3 : tie.Need-take-out-requires-3
-take-out-requires-3 c κs = ?
+take-out-requires-3 c κs =
+    let s = c .before .before .before .before .before .before .before .before .before .before .before .before .before .before .before .before .before .before .before in
+    (c .before .take-out2 .ensures .size ∙ c .before .before .before .take-out .ensures .size ∙ sized s .at-length, s .pre .1 .placed .0, s .pre .1 .placed .1 .below)
 
 put-in-requires : tie.Need-put-in-requires
-put-in-requires c κs = ?
-
-element-write-self : tie.Need-element-write-self
-element-write-self c = ?
-
-element-write-self-2 : tie.Need-element-write-self-2
-element-write-self-2 c = ?
-
-mul-self : tie.Need-mul-self
-mul-self c = ?
-
-element-write-self-3 : tie.Need-element-write-self-3
-element-write-self-3 c = ?
-
-mul-self-2 : tie.Need-mul-self-2
-mul-self-2 c = ?
-
-element-write-self-4 : tie.Need-element-write-self-4
-element-write-self-4 c = ?
+put-in-requires c κs =
+    let s = c .before .before .before .before .before .before .before .before .before .before .before .before .before .before .before .before .before .before .before .before .before in
+    (c .before .take-out3 .ensures .size ∙ c .before .before .before .take-out2 .ensures .size ∙ c .before .before .before .before .before .take-out .ensures .size ∙ sized s .at-length, across-below _ _ _ (ends s) (c .before .before .before .before .before .before .before .before .before .across2 .ensures), s .pre .1 .placed .1 .below)
 
 without-node-requires : tie.Need-without-node-requires
 without-node-requires c κs = search needs
 
 without-requires : tie.Need-without-requires
-without-requires c κs = ?
+without-requires c κs = c .before .before .before .before .before .before .before .before .before .before .before .before .before .before .before .before .before .before .before .before .before .before .before .pre .1 .placed .2 .below
 
 returns : tie.Need-returns
-returns c = ?
+returns c =
+    let p = c .before .before .put-in in
+    let three = c .before .before .before .before .take-out3 in
+    let two = c .before .before .before .before .before .before .take-out2 in
+    let one = c .before .before .before .before .before .before .before .before .take-out in
+    let b = c .before .before .before .before .before .before .before .before .before .before .before .before .across2 in
+    let a = c .before .before .before .before .before .before .before .before .before .before .before .before .before .before .before .across in
+    let high = c .before .before .before .before .before .before .before .before .before .before .before .before .before .before .before .before .before .before .series2 in
+    let low = c .before .before .before .before .before .before .before .before .before .before .before .before .before .before .before .before .before .before .before .before .before .series in
+    let s = c .before .before .before .before .before .before .before .before .before .before .before .before .before .before .before .before .before .before .before .before .before .before .before .before in
+    let n = s .args .t1 in
+    let i = s .args .i in
+    let j = s .args .j in
+    let e = row (a .result) (b .result) (low .result) (high .result) in
+    let made : e ≡ inSeries (s .args .v) (rowAt n i) (rowAt n j) = λ t. row (a .ensures t) (b .ensures t) (low .ensures t) (high .ensures t) in
+    let written = rows-set (all-even n (sized s)) i e in
+    let links = joined-links n _ j _ (s .pre .1 .placed .2) (c .without .ensures) (sized s) i e (inSeries (s .args .v)) (s .pre .1 .placed .1) written made in
+    stands _ (λ t. record { nodes = c .before .without-node .ensures t; links = links t }) (series-valid n (s .pre .0) (s .args .v) i j (s .pre .1))
+    (turned-over n (sized s) (s .pre .0) (s .args .v) i j (s .pre .1) _ _ _ _ _ (a .ensures) _ (c .without .ensures) (one .ensures) (two .ensures) (three .ensures) (p .ensures))
 
 pub series-spec : {M : Type 1} → statement M
 series-spec =
@@ -128,17 +173,17 @@ series-spec =
     across-requires-2
     element-copy-out-x
     element-copy-out-y
-    take-out-requires
-    take-out-requires-2
-    cast-take-out
-    take-out-requires-3
-    put-in-requires
     element-write-self
     element-write-self-2
     mul-self
     element-write-self-3
     mul-self-2
     element-write-self-4
+    take-out-requires
+    take-out-requires-2
+    cast-take-out
+    take-out-requires-3
+    put-in-requires
     without-node-requires
     without-requires
     returns)

@@ -38,7 +38,7 @@ put-in-requires c κs =
 put-in-requires-2 : tie.Need-put-in-requires-2
 put-in-requires-2 c κs =
     let s = c .before .before .before in
-    (c .before .put-in .ensures .0 ∙ sized s .at-length, proper-below (s .args .t1) (sized s) (s .args .l) (s .pre .3) .1, s .pre .2)
+    (c .before .put-in .ensures .size ∙ sized s .at-length, proper-below (s .args .t1) (sized s) (s .args .l) (s .pre .3) .1, s .pre .2)
 
 with-requires : tie.Need-with-requires
 with-requires c κs = search needs
@@ -53,9 +53,13 @@ returns c =
     let l = s .args .l in
     let r : Network = record { alive = c .with .result; at = t .last .0; nodes = n .nodes; a = set (n .a) k (l .a); b = set (n .b) k (l .b); low = set (n .low) k (l .low); high = set (n .high) k (l .high) } in
     let links = built-appended n r k (s .pre .1) (s .pre .2) (c .with .ensures) (sized s) l (rows-set (all-even n (sized s)) k l) in
-    let valid = appended-valid (networkOf n) (s .pre .0 .valid) l (s .pre .3) in
-    (refl, links, built-more n r k (s .pre .1) (s .pre .2) (c .with .ensures), stands r (λ t. record { nodes = nodesOf n; links = links t }) valid
-    (put-into n (sized s) (s .pre .0) k (s .pre .1) (s .pre .2) (l .a) (l .b) _ _ _ (c .with .ensures) (f .ensures) (t .ensures)) .1)
+    let valid = appended-valid (networkOf n) (s .pre .0 .valid) l (s .pre .3) in (
+      refl,
+      links,
+      built-more n r k (s .pre .1) (s .pre .2) (c .with .ensures),
+      stands r (λ t. record { nodes = nodesOf n; links = links t }) valid
+          (put-into n (sized s) (s .pre .0) k (s .pre .1) (s .pre .2) (l .a) (l .b) _ _ _ (c .with .ensures) (f .ensures) (t .ensures)) .1,
+    )
 
 pub with-link-spec : {M : Type 1} → statement M
 with-link-spec =
