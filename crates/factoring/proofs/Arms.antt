@@ -10,8 +10,8 @@ use Rattle.reliability.specs.Rule.{blend, figure}
 use Rattle.reliability.proofs.Validity.{proper-at}
 use Rattle.reliability.proofs.Unrolled.{figure-range, figure-steps}
 use Rattle.network.specs.declared.Network.{Network}
-use Rattle.network.specs.Places.{networkOf, indexOf, linkOf, Used, Invariant}
-use Rattle.network.proofs.Picks.{Sized, index-within}
+use Rattle.network.specs.Places.{networkOf, indexOf, linkOf, Used, Invariant, Sized}
+use Rattle.network.proofs.Picks.{index-within}
 
 -- both values of a link, or both figures, are at most S
 abbrev pub Within : ℕ → ℕ → Type 0

@@ -8,8 +8,8 @@ use Rattle.reliability.specs.Networks.{Valid, Ends, ends}
 use Rattle.search.specs.Searches.{endsIn, pick, endsByPlace, Bounded, Ended}
 use Rattle.search.proofs.Sets.{has-place, has-below, mem-has}
 use Rattle.network.specs.declared.Network.{Network}
-use Rattle.network.specs.Places.{rows, networkOf, linksOf}
-use Rattle.network.proofs.Picks.{Even, none, more, Sized, allRows, all-even, pick-map, proper-row}
+use Rattle.network.specs.Places.{rows, networkOf, linksOf, Sized}
+use Rattle.network.proofs.Picks.{Even, none, more, allRows, all-even, pick-map, proper-row}
 
 rows-ends : {as₁ bs ls hs : List ℕ} → Even as₁ bs ls hs → map ends (rows as₁ bs ls hs) ≡ endsByPlace as₁ bs
 unfolding rows endsByPlace

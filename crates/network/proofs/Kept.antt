@@ -1,4 +1,4 @@
--- The invariant, kept by what the network becomes.
+-- The invariant, kept by what a network becomes.
 use Prim.Native.Nat.{ℕ, _<_}
 use mathlib.Core.Path.{_≡_, sym, ap, ap₂, subst, _∙_}
 use mathlib.Core.Logic.{⊎-elim}
@@ -22,8 +22,8 @@ use Rattle.search.proofs.Sets.{has, has-none, has-without, has-below, mem-has}
 use Rattle.tallies.specs.Tallies.{Written}
 use Rattle.tallies.proofs.Laws.{counted, taken, added, turned}
 use Rattle.network.specs.declared.Network.{Network}
-use Rattle.network.specs.Places.{networkOf, nodesOf, indexOf, linkOf, Used, Invariant, Built, ranked, Fitting}
-use Rattle.network.proofs.Picks.{Sized, rowAt, link-at, index-within, built-free}
+use Rattle.network.specs.Places.{networkOf, nodesOf, indexOf, linkOf, Used, Invariant, Built, ranked, Fitting, Sized}
+use Rattle.network.proofs.Picks.{rowAt, link-at, index-within, built-free}
 use Rattle.network.proofs.Ends.{bounded}
 
 -- r stands for g, which is valid, and its tallies are right

@@ -14,8 +14,8 @@ use Rattle.search.specs.Searches.{pick, marked, touching, Incidence}
 use Rattle.tallies.specs.Tallies.{Written, Merged, changedAt}
 use Rattle.tallies.proofs.Laws.{merged, renamed-touching}
 use Rattle.network.specs.declared.Network.{Network}
-use Rattle.network.specs.Places.{rows, networkOf, linksOf, nodesOf, indexOf, linkOf, Used, Invariant}
-use Rattle.network.proofs.Picks.{Even, none, more, Sized, all-even, row, rowAt, allRows, link-at, deleted-links}
+use Rattle.network.specs.Places.{rows, networkOf, linksOf, nodesOf, indexOf, linkOf, Used, Invariant, Sized}
+use Rattle.network.proofs.Picks.{Even, none, more, all-even, row, rowAt, allRows, link-at, deleted-links}
 use Rattle.network.proofs.Kept.{stands, sound-valid, ends-below, taken-out}
 
 -- the ends of the links at gone renamed: those of all links are

@@ -20,7 +20,7 @@ use Rattle.reliability.proofs.Validity.{proper-at}
 use Rattle.network.specs.declared.Network.{Network}
 use Rattle.search.specs.Searches.{pick, from, nodesIn}
 use Rattle.search.proofs.Sets.{from-mem}
-use Rattle.network.specs.Places.{rank, rows, linksOf, nodesOf, networkOf, Used, indexOf, Built}
+use Rattle.network.specs.Places.{rank, rows, linksOf, nodesOf, networkOf, Used, indexOf, Built, Sized}
 
 -- ---- what stands at the places that are set
 
@@ -134,15 +134,6 @@ rows-map none f = refl
 rows-map (more {x} {y} {u} {v} s) f = ap (λ (r : List Link). row (f x) (f y) u v ∷ r) (rows-map s f)
 
 -- ---- the links of a network
-
--- what holds of every network that is a value: its arrays are full, and it has at most 32 nodes
-pub record Sized (n : Network) : Type 0 where
-  pub nodes : n .nodes < 2 ^ 32
-  pub at-length : length (n .at) ≡ 32
-  pub a-length : length (n .a) ≡ 64
-  pub b-length : length (n .b) ≡ 64
-  pub low-length : length (n .low) ≡ 64
-  pub high-length : length (n .high) ≡ 64
 
 abbrev pub allRows : Network → List Link
 allRows n = rows (n .a) (n .b) (n .low) (n .high)

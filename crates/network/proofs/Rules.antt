@@ -19,9 +19,9 @@ use Rattle.network.specs.declared.Network.{Network}
 use Rattle.search.specs.declared.Pair.{Pair}
 use Rattle.search.specs.declared.Pair.the-variants.{Both, Neither}
 use Rattle.search.specs.Searches.{pick, placesIn, touching, Incidence, filter, loops, beside, pairIn, withLinks}
-use Rattle.network.specs.Places.{rank, linksOf, nodesOf, indexOf}
+use Rattle.network.specs.Places.{rank, linksOf, nodesOf, indexOf, Sized}
 use Rattle.search.proofs.Sets.{has-below, mem-has, at-node}
-use Rattle.network.proofs.Picks.{rows-at, Sized, allRows, rowAt, all-even, length-all}
+use Rattle.network.proofs.Picks.{rows-at, allRows, rowAt, all-even, length-all}
 use Rattle.search.proofs.Marks.{indices, places-listed, length-places, filter-suc, filter-indices, same-test}
 use Rattle.search.proofs.Answers.{first, filter-none}
 

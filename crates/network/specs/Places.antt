@@ -1,9 +1,9 @@
 -- A network by value as a network of the definitions: the links at the places in use, in ascending order.
-use Prim.Native.Nat.{ℕ, zero, suc, _-_, _<_}
+use Prim.Native.Nat.{ℕ, zero, suc, _-_, _^_, _<_}
 use mathlib.Core.Path.{_≡_}
 use mathlib.Core.List.{List, [], _∷_, _++_}
 use mathlib.Core.Bool.{Bool, true, false}
-use lib.ListN.{getD, replicate}
+use lib.ListN.{length, getD, replicate}
 use Rattle.bits.specs.Members.{members, howMany}
 use Rattle.reliability.specs.declared.Link.{Link}
 use Rattle.reliability.specs.declared.Step.{Step}
@@ -50,6 +50,15 @@ indexOf n p = rank p (members (n .alive))
 -- the link at a place
 abbrev pub linkOf : Network → ℕ → Link
 linkOf n p = linkAt (networkOf n) (indexOf n p)
+
+-- what holds of every network that is a value: its arrays are full, and it has at most 32 nodes
+pub record Sized (n : Network) : Type 0 where
+  pub nodes : n .nodes < 2 ^ 32
+  pub at-length : length (n .at) ≡ 32
+  pub a-length : length (n .a) ≡ 64
+  pub b-length : length (n .b) ≡ 64
+  pub low-length : length (n .low) ≡ 64
+  pub high-length : length (n .high) ≡ 64
 
 -- what holds of a network by value at all times: the links at each node are those that are counted anew
 -- (their number is the node's tally: tally-counted in proofs/Rules.antt)

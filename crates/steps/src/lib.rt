@@ -1,45 +1,49 @@
 // The searches on a network: its pieces, and which step of the written rule fits.
 use network::Network;
-use reliability::Step;
 ghost use mathlib.Core.Path.{_≡_};
 ghost use Rattle.reliability.specs.Networks.{piecesOf};
-ghost use Rattle.network.specs.Places.{networkOf, Invariant, Fitting};
+ghost use Rattle.network.specs.Places.{networkOf, Invariant, Fitting, assembled};
+ghost use Rattle.steps.specs.Simple.{Workable, stepOf};
+
+// The step that fits a simple network: one node is left, an end, two links in series, or a split.
+pub enum Next {
+    OneNode,
+    End(usize, usize),
+    Series(usize, usize, usize),
+    Split(usize),
+}
 
 // How many pieces the links leave the nodes in.
 pub fn pieces(net: Network) -> u32
     requires { ⌜ Invariant net ⌝ }
     ensures { λ r. ⌜ r ≡ piecesOf (networkOf net) ⌝ }
 {
-    let at = search::incidence(net.alive, &net.a, &net.b);
-    pieces::count(net.nodes as u64, net.alive, &at, &net.a, &net.b)
+    pieces::count(net.nodes as u64, net.alive, &net.at, &net.a, &net.b)
 }
 
-// Which step fits.
-pub fn step(net: Network) -> Step
-    requires { ⌜ Invariant net ⌝ }
-    ensures { λ r. ⌜ Fitting net r ⌝ }
+// Which step fits a simple network, given by its parts.
+pub fn step<'r>(
+    alive: u64,
+    nodes: u32,
+    at: &'r [u64; 32],
+    a: &'r [u8; 64],
+    b: &'r [u8; 64],
+    low: &'r [u32; 64],
+    high: &'r [u32; 64],
+) -> Next
+    requires { ⌜ Workable (assembled alive nodes (now at) (now a) (now b) (now low) (now high)) ⌝ }
+    ensures { λ r. ⌜ Fitting (assembled alive nodes (now (at .entry)) (now (a .entry)) (now (b .entry)) (now (low .entry)) (now (high .entry))) (stepOf r) ⌝ }
 {
-    let alive = net.alive;
-    let nodes = net.nodes as u64;
-    if let search::Found::At(i) = search::first_loop(alive, &net.a, &net.b) {
-        return Step::Loop(i);
+    let all = nodes as u64;
+    if search::at_most_one(all) {
+        return Next::OneNode;
     }
-    if search::at_most_one(nodes) {
-        return Step::OneNode;
+    if let search::Found::At(v) = search::lowest_with(1, all, at) {
+        return Next::End(v, bits::lowest(at[v]));
     }
-    let at = search::incidence(alive, &net.a, &net.b);
-    if pieces::count(nodes, alive, &at, &net.a, &net.b) != 1 {
-        return Step::Disconnected;
-    }
-    if let search::Pair::Both(i, j) = search::first_pair(alive, &at, &net.a, &net.b) {
-        return Step::Parallel(i, j);
-    }
-    if let search::Found::At(v) = search::lowest_with(1, nodes, &at) {
-        return Step::End(v, bits::lowest(at[v]));
-    }
-    if let search::Found::At(v) = search::lowest_with(2, nodes, &at) {
+    if let search::Found::At(v) = search::lowest_with(2, all, at) {
         let s = at[v];
-        return Step::Series(v, bits::lowest(s), bits::lowest(bits::without_lowest(s)));
+        return Next::Series(v, bits::lowest(s), bits::lowest(bits::without_lowest(s)));
     }
-    Step::Split(bits::lowest(alive))
+    Next::Split(bits::lowest(alive))
 }

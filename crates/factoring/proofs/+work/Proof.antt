@@ -12,8 +12,7 @@ use Rattle.reliability.specs.Networks.{Network as Graph, value}
 use Rattle.reliability.proofs.Unrolled.{Below, below-rest, below-scaled, below-sound, below-broken, figure-settled, figure-rest, figure-scaled, figure-limit, figure-branches}
 use Rattle.factoring.proofs.Arms.{link-within, figure-within, steps-within, Within, pair-eq, blended}
 use Rattle.network.specs.declared.Network.{Network}
-use Rattle.network.specs.Places.{linksOf, networkOf, indexOf, linkOf, Used, Invariant, ranked, Fitting}
-use Rattle.network.proofs.Picks.{Sized}
+use Rattle.network.specs.Places.{linksOf, networkOf, indexOf, linkOf, Used, Invariant, ranked, Fitting, Sized}
 use Rattle.network.proofs.Kept.{by-rule, known}
 use borrow.Author.Tests.{ne-eqb}
 use borrow.Author.Needs.{needs}

@@ -8,8 +8,8 @@ use Rattle.reliability.specs.Networks.{Network as Graph, linkAt}
 use Rattle.reliability.specs.Rule.{figure}
 use Rattle.reliability.specs.Comparisons.{lessened}
 use Rattle.network.specs.declared.Network.{Network}
-use Rattle.network.specs.Places.{networkOf, indexOf}
-use Rattle.network.proofs.Picks.{Sized, index-within}
+use Rattle.network.specs.Places.{networkOf, indexOf, Sized}
+use Rattle.network.proofs.Picks.{index-within}
 use Rattle.factoring.proofs.Subtractions.{loop-sound, link-sound, subtracts}
 use borrow.Author.Needs.{needs}
 use borrow.Author.Tests.{ne-eqb}

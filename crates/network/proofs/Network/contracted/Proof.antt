@@ -1,8 +1,8 @@
 use mathlib.Core.Path.{_∙_}
 use native.Mathlib.Omega.{arith}
-use Rattle.network.proofs.Picks.{Sized}
 use Rattle.network.proofs.Kept.{ends-below}
 use Rattle.network.proofs.Merging.{keep-below, gone-below, contracts}
+use Rattle.network.specs.Places.{Sized}
 use borrow.Author.Needs.{needs}
 use Rattle.network.proofs.Network.contracted.Statement.{statement}
 use Rattle.network.proofs.Network.contracted.Tie as tie

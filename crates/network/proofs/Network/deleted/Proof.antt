@@ -1,7 +1,7 @@
 use mathlib.Core.Path.{_∙_}
 use Rattle.reliability.proofs.Validity.{deleted-valid}
-use Rattle.network.specs.Places.{nodesOf, networkOf, indexOf}
-use Rattle.network.proofs.Picks.{Sized, allRows, deleted-links}
+use Rattle.network.specs.Places.{nodesOf, networkOf, indexOf, Sized}
+use Rattle.network.proofs.Picks.{allRows, deleted-links}
 use Rattle.network.proofs.Kept.{stands, ends-below, taken-out}
 use borrow.Author.Needs.{needs}
 use Rattle.network.proofs.Network.deleted.Statement.{statement}

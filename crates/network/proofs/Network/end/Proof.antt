@@ -1,5 +1,6 @@
 use mathlib.Core.Path.{_∙_}
-use Rattle.network.proofs.Picks.{Sized, allRows, deleted-links}
+use Rattle.network.specs.Places.{Sized}
+use Rattle.network.proofs.Picks.{allRows, deleted-links}
 use Rattle.network.proofs.Kept.{stands, end-valid, ends-below, taken-out}
 use borrow.Author.Needs.{needs}
 use Rattle.network.proofs.Network.end.Statement.{statement}

@@ -1,5 +1,6 @@
 use mathlib.Core.Path.{sym}
-use Rattle.network.proofs.Picks.{Sized, link-at}
+use Rattle.network.specs.Places.{Sized}
+use Rattle.network.proofs.Picks.{link-at}
 use borrow.Author.Needs.{needs}
 use Rattle.network.proofs.Network.link.Statement.{statement}
 use Rattle.network.proofs.Network.link.Tie as tie

@@ -3,8 +3,8 @@ use Rattle.rounding.specs.declared.Direction.the-variants.{Down, Up}
 use lib.ListN.{length}
 use Rattle.search.specs.declared.Pair.the-variants.{Both}
 use Rattle.search.specs.Searches.{placesIn, beside, pairIn}
-use Rattle.network.specs.Places.{linksOf, Used}
-use Rattle.network.proofs.Picks.{Sized, values-within}
+use Rattle.network.specs.Places.{linksOf, Used, Sized}
+use Rattle.network.proofs.Picks.{values-within}
 use Rattle.network.proofs.Ends.{bounded}
 use Rattle.network.proofs.Kept.{ends-below}
 use Rattle.network.proofs.Joining.{Joining, all-joined, both-used, joined-on, joined-fewer}

@@ -6,7 +6,8 @@ use Rattle.rounding.specs.declared.Direction.{Direction}
 use Rattle.rounding.specs.declared.Direction.the-variants.{Down, Up}
 use Rattle.reliability.specs.Networks.{value}
 use Rattle.reliability.specs.Rule.{inSeries}
-use Rattle.network.proofs.Picks.{Sized, all-even, row, rowAt, rows-set, values-within, joined-links}
+use Rattle.network.specs.Places.{Sized}
+use Rattle.network.proofs.Picks.{all-even, row, rowAt, rows-set, values-within, joined-links}
 use Rattle.network.proofs.Kept.{stands, series-valid, ends-below, across-below, turned-over}
 use borrow.Author.Needs.{needs}
 use Rattle.network.proofs.Network.series.Statement.{statement}

@@ -2,8 +2,8 @@ use mathlib.Core.Path.{refl, _∙_}
 use lib.ListN.{set}
 use Rattle.reliability.proofs.Validity.{appended-valid}
 use Rattle.network.specs.declared.Network.{Network}
-use Rattle.network.specs.Places.{nodesOf, networkOf}
-use Rattle.network.proofs.Picks.{Sized, all-even, rows-set, built-more, built-appended}
+use Rattle.network.specs.Places.{nodesOf, networkOf, Sized}
+use Rattle.network.proofs.Picks.{all-even, rows-set, built-more, built-appended}
 use Rattle.network.proofs.Kept.{stands, proper-below, put-into}
 use borrow.Author.Needs.{needs}
 use Rattle.network.proofs.Network.with_link.Statement.{statement}

@@ -1,0 +1,122 @@
+-- Which step fits a simple network, by what the searches find.
+use Prim.Native.Nat.{ℕ, _≤_, _<_}
+use mathlib.Core.Path.{_≡_, refl, sym, ap, ap₂, subst, _∙_}
+use mathlib.Core.List.{List, [], _∷_, map}
+use mathlib.Core.Bool.{Bool, true, false, and-eq-true-iff}
+use mathlib.Core.Option.{Option, some, none, Option·map}
+use native.Mathlib.Omega.{arith}
+use lib.Dec.{eqb, leb}
+use lib.ListN.{length, getD, set}
+use borrow.Author.Tests.{eqb-true}
+use Rattle.bits.specs.Members.{members, firstOf, howMany}
+use Rattle.reliability.specs.declared.Step.{Step}
+use Rattle.reliability.specs.declared.Step.the-variants.{OneNode, End, Series, Split}
+use Rattle.reliability.specs.Rule.{lowest, endOf, seriesOf, chosen, when, _otherwise_, next}
+use Rattle.reliability.proofs.Steps.{Fits, fits}
+use Rattle.reliability.proofs.Simple.{simple-next}
+use Rattle.search.specs.declared.Found.the-variants.{At}
+use Rattle.search.specs.Searches.{pick, placesIn, touching, found, withLinks}
+use Rattle.search.proofs.Sets.{has, has-place, has-below, mem-has, at-node}
+use Rattle.search.proofs.Marks.{Lowest, length-places, lowest-in, lowest-first, lowest-rest, rest-count, rest-within}
+use Rattle.search.proofs.Answers.{first, hit}
+use Rattle.network.specs.declared.Network.{Network}
+use Rattle.network.specs.Places.{rank, networkOf, linksOf, nodesOf, indexOf, Used, Invariant, ranked, Fitting, Sized}
+use Rattle.network.proofs.Picks.{allRows}
+use Rattle.steps.specs.Simple.{Workable}
+use Rattle.network.proofs.Rules.{end-rule, series-rule}
+
+pick-count : {A : Type 0} (us : List Bool) (xs : List A) → length (pick us xs) ≤ howMany us
+unfolding pick
+pick-count [] xs = omega arith
+pick-count (u ∷ us) [] = omega arith
+pick-count (true ∷ us) (x ∷ xs) = omega (arith, pick-count us xs)
+pick-count (false ∷ us) (x ∷ xs) = pick-count us xs
+
+-- the first link stands at the lowest place
+rank-lowest : (us : List Bool) → rank (firstOf us) us ≡ 0
+unfolding rank
+rank-lowest [] = refl
+rank-lowest (true ∷ us) = refl
+rank-lowest (false ∷ us) = rank-lowest us
+
+place-used : (n : Network) (k : ℕ) → has (n .alive) k ≡ true → Used n k
+place-used n k e = record { below = has-place (n .alive) k e; used = e }
+
+module _ (n : Network) (work : Workable n) where
+  abbrev sized : Sized n
+  sized = work .sized
+
+  abbrev holds : Invariant n
+  holds = work .holds
+
+  by-tests : (one : Bool) → leb (howMany (members (n .nodes))) 1 ≡ one → (end : Option Step) → lowest endOf (linksOf n) (nodesOf n) ≡ end
+      → (series : Option Step) → lowest seriesOf (linksOf n) (nodesOf n) ≡ series
+      → next (networkOf n) ≡ (when one OneNode otherwise end otherwise series otherwise Split (chosen (networkOf n)))
+  by-tests one o end e series s =
+      simple-next (networkOf n) (work .simple) (chosen (networkOf n))
+      ∙ ap₂ (λ (b : Bool) (x : Option Step). when b OneNode otherwise x otherwise lowest seriesOf (linksOf n) (nodesOf n) otherwise Split (chosen (networkOf n))) (ap (λ (l : ℕ). leb l 1) (length-places (n .nodes)) ∙ o) e
+      ∙ ap (λ (x : Option Step). when one OneNode otherwise end otherwise x otherwise Split (chosen (networkOf n))) s
+
+  pub one-right : leb (howMany (members (n .nodes))) 1 ≡ true → Fitting n OneNode
+  unfolding ranked
+  one-right e = record { by-rule = sym (by-tests true e _ refl _ refl); placed = tt }
+
+  -- the places of the links at v among the links
+  abbrev ranks : ℕ → List ℕ
+  ranks v = map (indexOf n) (placesIn (getD (n .at) v 0))
+
+  abbrev endAt : ℕ → Step
+  endAt v = End v (getD (ranks v) 0 0)
+
+  abbrev seriesAt : ℕ → Step
+  seriesAt v = Series v (getD (ranks v) 0 0) (getD (ranks v) 1 0)
+
+  -- a link at a node is in use
+  at-used : (v k : ℕ) → v < 32 → has (getD (n .at) v 0) k ≡ true → Used n k
+  at-used v k h e =
+      place-used n k (and-eq-true-iff (has (n .alive) k) (touching v (getD (n .a) k 0) (getD (n .b) k 0)) .0 (sym (at-node (n .at) (n .a) (n .b) (n .alive) (holds .tallies) v h k) ∙ e) .0)
+
+  -- the lowest node with d links
+  pub node : (d v : ℕ) → found (withLinks d (n .at) (n .nodes)) ≡ At v → (v < 32) × (first (withLinks d (n .at) (n .nodes)) ≡ some v) × (howMany (members (getD (n .at) v 0)) ≡ d)
+  node d v e =
+      let h = hit (λ w. eqb (howMany (members (getD (n .at) w 0))) d) (nodesOf n) v e in
+      (has-below (n .nodes) 32 v (sized .nodes) (mem-has (n .nodes) v (h .member)), h .first, eqb-true (howMany (members (getD (n .at) v 0))) d (h .test))
+
+  module _ (more : leb (howMany (members (n .nodes))) 1 ≡ false) where
+    pub end-right : (v i : ℕ) → found (withLinks 1 (n .at) (n .nodes)) ≡ At v → i ≡ firstOf (members (getD (n .at) v 0)) → Fitting n (End v i)
+    unfolding ranked
+    end-right v i e f =
+        let (below, lowest, one) = node 1 v e in
+        let s = getD (n .at) v 0 in
+        let l : Lowest s i = record { some = omega arith; first = f } in
+        let listed = ap (λ (ks : List ℕ). some (End v (getD (map (indexOf n) ks) 0 0))) (lowest-first s i l) in
+        record {
+          by-rule = sym (by-tests false more (some (End v (indexOf n i))) (end-rule n sized (n .at) (holds .tallies) ∙ ap (Option·map endAt) lowest ∙ listed) _ refl);
+          placed = (below, at-used v i below (lowest-in s i l));
+        }
+
+    module _ (no-end : withLinks 1 (n .at) (n .nodes) ≡ []) where
+      by-series : (series : Option Step) → lowest seriesOf (linksOf n) (nodesOf n) ≡ series → next (networkOf n) ≡ (series otherwise Split (chosen (networkOf n)))
+      by-series = by-tests false more none (end-rule n sized (n .at) (holds .tallies) ∙ ap (λ (l : List ℕ). Option·map endAt (first l)) no-end)
+
+      pub series-right : (v i r j : ℕ) → found (withLinks 2 (n .at) (n .nodes)) ≡ At v → i ≡ firstOf (members (getD (n .at) v 0))
+          → members r ≡ set (members (getD (n .at) v 0)) (firstOf (members (getD (n .at) v 0))) false → j ≡ firstOf (members r) → Fitting n (Series v i j)
+      unfolding ranked
+      series-right v i r j e f rest g =
+          let (below, lowest, two) = node 2 v e in
+          let s = getD (n .at) v 0 in
+          let l : Lowest s i = record { some = omega arith; first = f } in
+          let m : Lowest r j = record { some = omega (arith, rest-count s i l r rest); first = g } in
+          let listed = ap (λ (ks : List ℕ). some (Series v (getD (map (indexOf n) ks) 0 0) (getD (map (indexOf n) ks) 1 0))) (lowest-rest s i l r rest ∙ ap (λ (ks : List ℕ). i ∷ ks) (lowest-first r j m)) in
+          record {
+            by-rule = sym (by-series (some (Series v (indexOf n i) (indexOf n j))) (series-rule n sized (n .at) (holds .tallies) ∙ ap (Option·map seriesAt) lowest ∙ listed));
+            placed = (below, at-used v i below (lowest-in s i l), at-used v j below (rest-within s i l r rest s (λ k e. e) j (lowest-in r j m)));
+          }
+
+      pub split-right : withLinks 2 (n .at) (n .nodes) ≡ [] → (k : ℕ) → k ≡ firstOf (members (n .alive)) → Fitting n (Split k)
+      unfolding ranked
+      split-right no-series k f =
+          let e : next (networkOf n) ≡ Split 0 = by-series none (series-rule n sized (n .at) (holds .tallies) ∙ ap (λ (l : List ℕ). Option·map seriesAt (first l)) no-series) in
+          let place = subst (Fits (networkOf n)) e (fits (networkOf n) (holds .valid)) .place in
+          let l : Lowest (n .alive) k = record { some = omega (arith, pick-count (members (n .alive)) (allRows n)); first = f } in
+          record { by-rule = ap Split (ap (indexOf n) f ∙ rank-lowest (members (n .alive))) ∙ sym e; placed = place-used n k (lowest-in (n .alive) k l) }
