@@ -1,17 +1,33 @@
--- What is known of links and figures where a step is worked.
-use Prim.Native.Nat.{ℕ, _-_, _≤_}
+-- What is known of links, figures and branches where a step is worked.
+use Prim.Native.Nat.{ℕ, _-_, _≤_, _<_}
 use mathlib.Core.Path.{_≡_, sym, ap, ap₂, _∙_, subst}
+use mathlib.Core.List.{List, map}
+use mathlib.Core.Bool.{Bool, true, false}
+use native.Mathlib.Omega.{arith}
+use lib.Dec.{leb}
+use lib.ListN.{length, getD, set}
+use borrow.Author.Tests.{le-leb, lt-leb}
 use Rattle.rounding.specs.Rounding.{S}
 use Rattle.rounding.specs.declared.Direction.the-variants.{Down, Up}
+use Rattle.bits.specs.Members.{members}
 use Rattle.reliability.specs.declared.Link.{Link}
 use Rattle.reliability.specs.declared.Figure.{Figure}
-use Rattle.reliability.specs.Networks.{Network as Graph}
-use Rattle.reliability.specs.Rule.{blend, figure}
-use Rattle.reliability.proofs.Validity.{proper-at}
-use Rattle.reliability.proofs.Unrolled.{figure-range, figure-steps}
+use Rattle.reliability.specs.declared.Step.{Step}
+use Rattle.reliability.specs.declared.Step.the-variants.{End, Series, Split}
+use Rattle.reliability.specs.Networks.{Network as Graph, Valid, ends, connected, pieces, piecesOf}
+use Rattle.reliability.specs.Rule.{Remainder, next, leaves, removed, deleted, joined, inSeries, contracted, bounded, blend, figure}
+use Rattle.reliability.specs.Simple.{Plain, Simple, unpaired}
+use Rattle.reliability.proofs.Validity.{proper-at, deleted-valid}
+use Rattle.reliability.proofs.Unrolled.{Below, below-scaled, below-sound, below-broken, figure-range, figure-steps}
+use Rattle.reliability.proofs.Simple.{connected-pieces-few, apart-figure, unpaired-simple, unpaired-figure, unpaired-fewer, end-simple, series-plain, contracted-plain, deleted-simple}
+use Rattle.search.specs.Searches.{endsIn}
+use Rattle.tallies.specs.Tallies.{Written}
 use Rattle.network.specs.declared.Network.{Network}
-use Rattle.network.specs.Places.{networkOf, indexOf, linkOf, Used, Invariant, Sized}
-use Rattle.network.proofs.Picks.{index-within}
+use Rattle.network.specs.Places.{networkOf, linksOf, nodesOf, indexOf, linkOf, rowOf, Used, Invariant, Sized, ranked, Fitting}
+use Rattle.network.proofs.Picks.{index-within, link-at}
+use Rattle.network.proofs.Ends.{links-ends}
+use Rattle.network.proofs.Kept.{by-rule, known, deletes}
+use Rattle.steps.specs.Simple.{Workable}
 
 -- both values of a link, or both figures, are at most S
 abbrev pub Within : ℕ → ℕ → Type 0
@@ -39,3 +55,104 @@ pub blended : (e e′ : Link) (s t : Figure) (g h : Graph) (l : ℕ) → e ≡ e
 blended e e′ s t g h l p q r =
     ap₂ (λ (k : Link) (f : Figure). blend k f t) p q
     ∙ ap (blend e′ (figure g l)) (r ∙ ap (λ (f : Figure). figure h (l - f .steps)) q)
+
+-- a step fits the same network
+pub moved-fits : {n r : Network} {s : Step} → n ≡ r → Fitting n s → Fitting r s
+moved-fits {s = s} e f = subst (λ (n : Network). Fitting n s) e f
+
+-- ---- what each step leaves, by value
+
+-- n has fewer links than g
+pub fewer : (g : Graph) (n : Network) {h : Graph} → networkOf n ≡ h → Below g h → length (linksOf n) < length (g .links)
+fewer g n e b = omega (arith, ap (λ (k : Graph). length (k .links)) e, b .fewer)
+
+-- q is r without pairs, and r stands for a plain network
+module _ {h : Graph} (plain : Plain h) (r q : Network) (is : networkOf r ≡ h) (joins : networkOf q ≡ unpaired (networkOf r)) where
+  stood : networkOf q ≡ unpaired h
+  stood = joins ∙ ap unpaired is
+
+  pub unpaired-work : Sized q → Invariant q → Workable q
+  unpaired-work sized holds = record { sized = sized; holds = holds; simple = subst Simple (sym stood) (unpaired-simple h plain) }
+
+  pub unpaired-same : (l : ℕ) → figure (networkOf q) l ≡ figure h l
+  unpaired-same l = ap (λ (k : Graph). figure k l) stood ∙ unpaired-figure h plain l
+
+  pub unpaired-less : (g : Graph) → Below g h → length (linksOf q) < length (g .links)
+  unpaired-less g b = omega (arith, ap (λ (k : Graph). length (k .links)) stood, unpaired-fewer h, b .fewer)
+
+module _ (n : Network) (work : Workable n) where
+  abbrev g : Graph
+  g = networkOf n
+
+  -- the step that fits, by the rule
+  pub rule : (s : Step) → Fitting n s → leaves g (next g) ≡ leaves g (ranked n s)
+  rule s f = by-rule n (work .holds) s f
+
+  pub link-is : (e : Link) (i : ℕ) → Used n i → e ≡ rowOf (n .a) (n .b) (n .low) (n .high) i → e ≡ linkOf n i
+  link-is e i u is = is ∙ sym (link-at n (work .sized) i u)
+
+  module _ (v i : ℕ) (f : Fitting n (End v i)) where
+    pub end-below : Below g (removed v (deleted (indexOf n i) g))
+    unfolding leaves ranked
+    end-below = below-scaled g (work .holds .valid) _ _ (rule (End v i) f)
+
+    pub end-work : (r : Network) → networkOf r ≡ removed v (deleted (indexOf n i) g) → Sized r → Invariant r → Workable r
+    unfolding ranked
+    end-work r e sized holds = record { sized = sized; holds = holds; simple = subst Simple (sym e) (end-simple g (work .simple) v (indexOf n i) (known n (work .holds) (End v i) f)) }
+
+  module _ (v i j : ℕ) (f : Fitting n (Series v i j)) where
+    pub series-left : Plain (removed v (joined (indexOf n i) (indexOf n j) (inSeries v (linkOf n i) (linkOf n j)) g))
+    unfolding ranked
+    series-left = series-plain g (work .simple) v (indexOf n i) (indexOf n j) (known n (work .holds) (Series v i j) f)
+
+    pub series-below : Below g (removed v (joined (indexOf n i) (indexOf n j) (inSeries v (linkOf n i) (linkOf n j)) g))
+    unfolding leaves ranked
+    series-below = below-scaled g (work .holds .valid) _ _ (rule (Series v i j) f)
+
+  module _ (i : ℕ) (f : Fitting n (Split i)) where
+    abbrev broken : Graph
+    broken = deleted (indexOf n i) g
+
+    pub sound-left : Plain (contracted (linkOf n i) broken)
+    unfolding ranked
+    sound-left = contracted-plain g (work .simple) (indexOf n i) (known n (work .holds) (Split i) f)
+
+    pub sound-below : Below g (contracted (linkOf n i) broken)
+    unfolding leaves ranked
+    sound-below = below-sound g (work .holds .valid) _ _ _ (rule (Split i) f)
+
+    pub broken-below : Below g broken
+    unfolding leaves ranked
+    broken-below = below-broken g (work .holds .valid) _ _ _ (rule (Split i) f)
+
+    -- the network without link i, by value
+    module _ (e : Link) (is : e ≡ rowOf (n .a) (n .b) (n .low) (n .high) i) (others : ℕ) (one two : List ℕ) (cleared : members others ≡ set (members (n .alive)) i false)
+        (first : Written false (e .a) i (n .at) one) (second : Written false (e .b) i one two) where
+      abbrev r : Network
+      r = record { alive = others; at = two; low = n .low; high = n .high; a = n .a; b = n .b; nodes = n .nodes }
+
+      pub broken-is : (networkOf r ≡ broken) × Invariant r
+      broken-is = deletes n (work .sized) (work .holds) i (f .placed) others one two cleared
+          (subst (λ (l : Link). Written false (l .a) i (n .at) one) is first) (subst (λ (l : Link). Written false (l .b) i one two) is second)
+
+      pub broken-sized : Sized r
+      broken-sized = record {
+        nodes = work .sized .nodes;
+        at-length = second .size ∙ first .size ∙ work .sized .at-length;
+        a-length = work .sized .a-length;
+        b-length = work .sized .b-length;
+        low-length = work .sized .low-length;
+        high-length = work .sized .high-length;
+      }
+
+      module _ (k : ℕ) (count : k ≡ pieces (nodesOf r) (endsIn others (n .a) (n .b))) where
+        counted : (b : Bool) → leb k 1 ≡ b → connected (broken .nodes) (map ends (broken .links)) ≡ b
+        counted b h =
+            connected-pieces-few broken
+            ∙ ap (λ (x : ℕ). leb x 1) (sym (ap piecesOf (broken-is .0)) ∙ ap (pieces (nodesOf r)) (links-ends r broken-sized) ∙ sym count) ∙ h
+
+        pub broken-apart : 1 < k → (l : ℕ) → bounded (λ d. 0) 0 true ≡ figure broken l
+        broken-apart h l = sym (apart-figure broken (deleted-valid g (work .holds .valid) (indexOf n i)) (counted false (lt-leb k 1 h)) l)
+
+        pub broken-work : k ≤ 1 → Workable r
+        broken-work h = record { sized = broken-sized; holds = broken-is .1; simple = subst Simple (sym (broken-is .0)) (deleted-simple g (work .simple) (indexOf n i) (counted true (le-leb k 1 h))) }

@@ -3,8 +3,9 @@ use network::Network;
 use reliability::Difference;
 use reliability::Figure;
 use reliability::Link;
-use reliability::Step;
 use rounding::Direction;
+use search::Found;
+use steps::Next;
 ghost use mathlib.Core.Path.{_≡_};
 ghost use mathlib.Core.Bool.{true, _&&_};
 ghost use Prim.Native.Nat.{_+_, _-_, _^_, _≤_, _<_};
@@ -13,7 +14,8 @@ ghost use Rattle.rounding.specs.Rounding.{S, factor};
 ghost use Rattle.reliability.specs.Networks.{value};
 ghost use Rattle.reliability.specs.Rule.{bounded, times, blend, unfinished, figure};
 ghost use Rattle.reliability.specs.Comparisons.{lessened, minus, importance, difference};
-ghost use Rattle.network.specs.Places.{networkOf, indexOf, Used, Invariant};
+ghost use Rattle.network.specs.Places.{networkOf, indexOf, Used, Invariant, assembled};
+ghost use Rattle.steps.specs.Simple.{Workable};
 ghost use Rattle.factoring.specs.Sides.{sides};
 
 fn both(a: bool, b: bool) -> bool
@@ -110,36 +112,83 @@ fn unfinished() -> Figure
     }
 }
 
-// The figure of a network under a limit: what each step leaves is worked by the same rule, with a link less.
+// The figure of a simple network, given by its parts, under a limit: what each step leaves is worked by the same rule, with a
+// link less.
+fn run<'r>(
+    alive: u64,
+    nodes: u32,
+    at: &'r [u64; 32],
+    a: &'r [u8; 64],
+    b: &'r [u8; 64],
+    low: &'r [u32; 64],
+    high: &'r [u32; 64],
+    limit: u64,
+) -> Figure
+    requires { ⌜ Workable (assembled alive nodes (now at) (now a) (now b) (now low) (now high)) × (limit < 2 ^ 32) ⌝ }
+    ensures { λ r. ⌜ r ≡ figure (networkOf (assembled alive nodes (now (at .entry)) (now (a .entry)) (now (b .entry)) (now (low .entry)) (now (high .entry)))) limit ⌝ }
+{
+    match steps::step(alive, nodes, at, a, b, low, high) {
+        Next::OneNode => settled(1_000_000_000),
+        Next::End(v, i) => {
+            let e = network::link_at(a, b, low, high, i);
+            let r = network::assembled(alive, nodes, at, a, b, low, high).end(v, i);
+            let f = run(r.alive, r.nodes, &r.at, &r.a, &r.b, &r.low, &r.high, limit);
+            times(e.low, e.high, f)
+        }
+        Next::Series(v, i, j) => {
+            let e = network::link_at(a, b, low, high, i);
+            let k = network::link_at(a, b, low, high, j);
+            let r = network::assembled(alive, nodes, at, a, b, low, high)
+                .series(v, i, j)
+                .parallel();
+            let f = run(r.alive, r.nodes, &r.at, &r.a, &r.b, &r.low, &r.high, limit);
+            times_factor(e, k, f)
+        }
+        Next::Split(i) => {
+            if limit == 0 {
+                return unfinished();
+            }
+            let e = network::link_at(a, b, low, high, i);
+            let s = network::assembled(alive, nodes, at, a, b, low, high)
+                .contracted(i)
+                .parallel();
+            let sound = run(
+                s.alive,
+                s.nodes,
+                &s.at,
+                &s.a,
+                &s.b,
+                &s.low,
+                &s.high,
+                limit - 1,
+            );
+            let others = bits::without(alive, i);
+            let mut rest = *at;
+            tallies::take_out(&mut rest, e.a, i);
+            tallies::take_out(&mut rest, e.b, i);
+            if 1 < pieces::count(nodes as u64, others, &rest, a, b) {
+                return blend(e, sound, settled(0));
+            }
+            let left = limit - 1 - (sound.steps as u64);
+            let broken = run(others, nodes, &rest, a, b, low, high, left);
+            blend(e, sound, broken)
+        }
+    }
+}
+
+// The figure of a network under a limit: loops go first, then pairs, and what is left is simple.
 pub fn work(net: Network, limit: u64) -> Figure
     requires { ⌜ Invariant net × (limit < 2 ^ 32) ⌝ }
     ensures { λ r. ⌜ r ≡ figure (networkOf net) limit ⌝ }
 {
-    match steps::step(net) {
-        Step::OneNode => settled(1_000_000_000),
-        Step::Disconnected => settled(0),
-        Step::Loop(i) => work(net.deleted(i), limit),
-        Step::Parallel(i, j) => work(net.parallel(i, j), limit),
-        Step::End(v, i) => {
-            let e = net.link(i);
-            times(e.low, e.high, work(net.end(v, i), limit))
-        }
-        Step::Series(v, i, j) => {
-            let e = net.link(i);
-            let k = net.link(j);
-            times_factor(e, k, work(net.series(v, i, j), limit))
-        }
-        Step::Split(i) => {
-            if limit == 0 {
-                return unfinished();
-            }
-            let e = net.link(i);
-            let sound = work(net.contracted(i), limit - 1);
-            let left = limit - 1 - (sound.steps as u64);
-            let broken = work(net.deleted(i), left);
-            blend(e, sound, broken)
-        }
+    if let Found::At(i) = search::first_loop(net.alive, &net.a, &net.b) {
+        return work(net.deleted(i), limit);
     }
+    if 1 < steps::pieces(net) {
+        return settled(0);
+    }
+    let r = net.parallel();
+    run(r.alive, r.nodes, &r.at, &r.a, &r.b, &r.low, &r.high, limit)
 }
 
 // Sound minus broken, the low no lower than 0.

@@ -23,7 +23,7 @@ use Rattle.tallies.specs.Tallies.{Written}
 use Rattle.tallies.proofs.Laws.{counted, taken, added, turned}
 use Rattle.network.specs.declared.Network.{Network}
 use Rattle.network.specs.Places.{networkOf, nodesOf, indexOf, linkOf, Used, Invariant, Built, ranked, Fitting, Sized}
-use Rattle.network.proofs.Picks.{rowAt, link-at, index-within, built-free}
+use Rattle.network.proofs.Picks.{rowAt, allRows, link-at, index-within, deleted-links, built-free}
 use Rattle.network.proofs.Ends.{bounded}
 
 -- r stands for g, which is valid, and its tallies are right
@@ -112,3 +112,11 @@ module _ (n : Network) (sized : Sized n) (holds : Invariant n) (v i j : ℕ) (fi
       let used : has others i ≡ true = has-without others (n .alive) j cleared (w .below) i ∙ ap₂ (λ (s t : Bool). not s && t) (ne-eqb i j apart) (u .used) in
       turned two (n .a) (n .b) others (record { a-length = sized .a-length; b-length = sized .b-length }) (taken-out n sized holds j w others one two cleared first second)
       i v x y three four (u .below) used (λ t. both-ways t ∙ ap (touching t v) (sym e)) (λ q. leg .differ (sym e ∙ sym q)) third fourth
+
+-- link i goes
+pub deletes : (n : Network) (sized : Sized n) (holds : Invariant n) (i : ℕ) (u : Used n i) (others : ℕ) (one two : List ℕ) → members others ≡ set (members (n .alive)) i false
+    → Written false (getD (n .a) i 0) i (n .at) one → Written false (getD (n .b) i 0) i one two
+    → let r : Network = record { alive = others; at = two; low = n .low; high = n .high; a = n .a; b = n .b; nodes = n .nodes } in (networkOf r ≡ deleted (indexOf n i) (networkOf n)) × Invariant r
+deletes n sized holds i u others one two cleared first second =
+    let links = deleted-links n others i (allRows n) u cleared in
+    stands _ (λ t. record { nodes = nodesOf n; links = links t }) (deleted-valid (networkOf n) (holds .valid) (indexOf n i)) (taken-out n sized holds i u others one two cleared first second)

@@ -28,6 +28,10 @@ rows (a ∷ as₁) [] ls hs = []
 rows (a ∷ as₁) (b ∷ bs) [] hs = []
 rows (a ∷ as₁) (b ∷ bs) (l ∷ ls) [] = []
 
+-- the link of place i
+abbrev pub rowOf : List ℕ → List ℕ → List ℕ → List ℕ → ℕ → Link
+rowOf as₁ bs ls hs i = record { a = getD as₁ i 0; b = getD bs i 0; low = getD ls i 0; high = getD hs i 0 }
+
 abbrev pub linksOf : Network → List Link
 linksOf n = pick (members (n .alive)) (rows (n .a) (n .b) (n .low) (n .high))
 

@@ -14,7 +14,7 @@ ghost use Rattle.reliability.specs.Networks.{Proper};
 ghost use Rattle.reliability.specs.Rule.{isLoop, without, deleted, removed, joined, inSeries, contracted};
 ghost use Rattle.reliability.specs.Simple.{Plain, unpaired};
 ghost use Rattle.search.specs.Searches.{from, nodesIn};
-ghost use Rattle.network.specs.Places.{networkOf, linksOf, nodesOf, indexOf, linkOf, Used, Invariant, Built, Fitting, assembled};
+ghost use Rattle.network.specs.Places.{networkOf, linksOf, nodesOf, indexOf, linkOf, Used, Invariant, Built, Fitting, rowOf, assembled};
 
 pub struct Network {
     pub alive: u64,
@@ -62,6 +62,25 @@ fn join(values: &mut [u32; 64], d: Direction, i: usize, j: usize)
 {
     let both = rounding::parallel(d, values[i], values[j]);
     values[i] = both;
+}
+
+// The link at place i, from the parts of a network.
+pub fn link_at<'r>(
+    a: &'r [u8; 64],
+    b: &'r [u8; 64],
+    low: &'r [u32; 64],
+    high: &'r [u32; 64],
+    i: usize,
+) -> Link
+    requires { ⌜ i < 64 ⌝ }
+    ensures { λ r. ⌜ r ≡ rowOf (now (a .entry)) (now (b .entry)) (now (low .entry)) (now (high .entry)) i ⌝ }
+{
+    Link {
+        a: a[i],
+        b: b[i],
+        low: low[i],
+        high: high[i],
+    }
 }
 
 // The network of these parts.

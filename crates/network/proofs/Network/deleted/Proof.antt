@@ -1,8 +1,6 @@
 use mathlib.Core.Path.{_∙_}
-use Rattle.reliability.proofs.Validity.{deleted-valid}
-use Rattle.network.specs.Places.{nodesOf, networkOf, indexOf, Sized}
-use Rattle.network.proofs.Picks.{allRows, deleted-links}
-use Rattle.network.proofs.Kept.{stands, ends-below, taken-out}
+use Rattle.network.specs.Places.{Sized}
+use Rattle.network.proofs.Kept.{ends-below, deletes}
 use borrow.Author.Needs.{needs}
 use Rattle.network.proofs.Network.deleted.Statement.{statement}
 use Rattle.network.proofs.Network.deleted.Tie as tie
@@ -35,11 +33,7 @@ returns c =
     let t = c .before .take-out2 in
     let f = c .before .before .before .take-out in
     let s = c .before .before .before .before .before .before .before in
-    let n = s .args .t1 in
-    let i = s .args .i in
-    let links = deleted-links n _ i (allRows n) (s .pre .1) (c .without .ensures) in
-    stands _ (λ t. record { nodes = nodesOf n; links = links t }) (deleted-valid (networkOf n) (s .pre .0 .valid) (indexOf n i))
-    (taken-out n (sized s) (s .pre .0) i (s .pre .1) _ _ _ (c .without .ensures) (f .ensures) (t .ensures))
+    deletes (s .args .t1) (sized s) (s .pre .0) (s .args .i) (s .pre .1) _ _ _ (c .without .ensures) (f .ensures) (t .ensures)
 
 pub deleted-spec : {M : Type 1} → statement M
 deleted-spec =
