@@ -4,7 +4,8 @@ use mathlib.Core.Path.{_≡_, sym, ap, ap₂, _∙_, subst}
 use mathlib.Core.List.{List, map}
 use mathlib.Core.Bool.{Bool, true, false}
 use native.Mathlib.Omega.{arith}
-use lib.Dec.{leb}
+use mathlib.Core.Option.{some, Option·map}
+use lib.Dec.{eqb, leb}
 use lib.ListN.{length, getD, set}
 use borrow.Author.Tests.{le-leb, lt-leb}
 use Rattle.rounding.specs.Rounding.{S}
@@ -15,19 +16,37 @@ use Rattle.reliability.specs.declared.Figure.{Figure}
 use Rattle.reliability.specs.declared.Step.{Step}
 use Rattle.reliability.specs.declared.Step.the-variants.{End, Series, Split}
 use Rattle.reliability.specs.Networks.{Network as Graph, Valid, ends, connected, pieces, piecesOf}
-use Rattle.reliability.specs.Rule.{Remainder, next, leaves, removed, deleted, joined, inSeries, contracted, bounded, blend, figure}
-use Rattle.reliability.specs.Simple.{Plain, Simple, unpaired}
+use Rattle.reliability.specs.Rule.{isLoop, firstAt, next, leaves, removed, deleted, joined, inSeries, contracted, bounded, blend, figure}
+use Rattle.reliability.specs.Simple.{Loopless, Plain, Simple, unpaired}
 use Rattle.reliability.proofs.Validity.{proper-at, deleted-valid}
 use Rattle.reliability.proofs.Unrolled.{Below, below-scaled, below-sound, below-broken, figure-range, figure-steps}
 use Rattle.reliability.proofs.Simple.{connected-pieces-few, apart-figure, unpaired-simple, unpaired-figure, unpaired-fewer, end-simple, series-plain, contracted-plain, deleted-simple}
-use Rattle.search.specs.Searches.{endsIn}
+use Rattle.search.specs.declared.Found.the-variants.{At, Nothing}
+use Rattle.search.specs.Searches.{placesIn, endsIn, found, loops}
+use Rattle.search.proofs.Sets.{has-place, mem-has}
+use Rattle.search.proofs.Answers.{first, hit, missed}
 use Rattle.tallies.specs.Tallies.{Written}
 use Rattle.network.specs.declared.Network.{Network}
 use Rattle.network.specs.Places.{networkOf, linksOf, nodesOf, indexOf, linkOf, rowOf, Used, Invariant, Sized, ranked, Fitting}
 use Rattle.network.proofs.Picks.{index-within, link-at}
 use Rattle.network.proofs.Ends.{links-ends}
+use Rattle.network.proofs.Rules.{loop-rule}
 use Rattle.network.proofs.Kept.{by-rule, known, deletes}
+use Rattle.network.proofs.Network.end.Kinds as end-kinds
 use Rattle.steps.specs.Simple.{Workable}
+use contract.Lifetimes.{Lfts}
+use borrow.Author.Needs.{needs}
+
+-- a network that a method hands back
+pub sized-of : (κs : Lfts 0) (r : Network) → end-kinds.r .is .Ok κs r → Sized r
+sized-of κs r ok = record {
+  nodes = search (needs, ok .1 .1 .1 .1 .1 .1);
+  at-length = search (needs, ok);
+  a-length = search (needs, ok .1 .1 .1 .1);
+  b-length = search (needs, ok .1 .1 .1 .1 .1);
+  low-length = search (needs, ok);
+  high-length = search (needs, ok);
+}
 
 -- both values of a link, or both figures, are at most S
 abbrev pub Within : ℕ → ℕ → Type 0
@@ -59,6 +78,25 @@ blended e e′ s t g h l p q r =
 -- a step fits the same network
 pub moved-fits : {n r : Network} {s : Step} → n ≡ r → Fitting n s → Fitting r s
 moved-fits {s = s} e f = subst (λ (n : Network). Fitting n s) e f
+
+-- ---- loops
+
+module _ (n : Network) (sized : Sized n) where
+  pub loop-found : (i : ℕ) → found (loops (n .alive) (n .a) (n .b)) ≡ At i → Used n i × (firstAt isLoop (linksOf n) ≡ some (indexOf n i))
+  loop-found i e =
+      let h = hit (λ k. eqb (getD (n .a) k 0) (getD (n .b) k 0)) (placesIn (n .alive)) i e in
+      let u = mem-has (n .alive) i (h .member) in
+      (record { below = has-place (n .alive) i u; used = u }, loop-rule n sized ∙ ap (Option·map (indexOf n)) (h .first))
+
+  pub loop-missed : found (loops (n .alive) (n .a) (n .b)) ≡ Nothing → Loopless (networkOf n)
+  loop-missed e = loop-rule n sized ∙ ap (λ (l : List ℕ). Option·map (indexOf n) (first l)) (missed (loops (n .alive) (n .a) (n .b)) e)
+
+-- no loop, and in one piece at most
+pub plain-by : (n : Network) → Invariant n → Loopless (networkOf n) → piecesOf (networkOf n) ≤ 1 → Plain (networkOf n)
+plain-by n holds no-loop few = record { valid = holds .valid; loopless = no-loop; connected = connected-pieces-few (networkOf n) ∙ le-leb (piecesOf (networkOf n)) 1 few }
+
+pub pieces-apart : (n : Network) → Invariant n → 1 < piecesOf (networkOf n) → (l : ℕ) → bounded (λ d. 0) 0 true ≡ figure (networkOf n) l
+pieces-apart n holds many l = sym (apart-figure (networkOf n) (holds .valid) (connected-pieces-few (networkOf n) ∙ lt-leb (piecesOf (networkOf n)) 1 many) l)
 
 -- ---- what each step leaves, by value
 

@@ -19,9 +19,8 @@ use Rattle.network.proofs.Kept.{known, ends-below}
 use Rattle.steps.specs.declared.Next.{Next}
 use Rattle.steps.specs.declared.Next.the-variants.{OneNode as One, End as Ended, Series as InSeries, Split as Splitting}
 use Rattle.steps.specs.Simple.{Workable, stepOf}
-use Rattle.factoring.proofs.Arms.{Within, moved-fits, link-within, figure-within, steps-within, pair-eq, blended, fewer, unpaired-work, unpaired-same, unpaired-less, rule, link-is, end-below, end-work, series-left, series-below, sound-left, sound-below, broken-below, broken-is, broken-sized, broken-apart, broken-work}
+use Rattle.factoring.proofs.Arms.{Within, sized-of, moved-fits, link-within, figure-within, steps-within, pair-eq, blended, fewer, unpaired-work, unpaired-same, unpaired-less, rule, link-is, end-below, end-work, series-left, series-below, sound-left, sound-below, broken-below, broken-is, broken-sized, broken-apart, broken-work}
 use borrow.Author.Needs.{needs}
-use contract.Lifetimes.{Lfts}
 use borrow.Fn.Kinds.{In}
 use borrow.Fn.PlainCycle.{Measures, is, falls, and}
 use Rattle.bits.proofs.without.Reads as without-reads
@@ -89,17 +88,6 @@ claims t = (
   blend-reads.Asked,
   blend-reads.Learnt,
 )
-
--- a network that a method hands back
-sized-of : (κs : Lfts 0) (r : Network) → run-lts.r·4 .is .Ok κs r → Sized r
-sized-of κs r ok = record {
-  nodes = search (needs, ok .1 .1 .1 .1 .1 .1);
-  at-length = search (needs, ok);
-  a-length = search (needs, ok .1 .1 .1 .1);
-  b-length = search (needs, ok .1 .1 .1 .1 .1);
-  low-length = search (needs, ok);
-  high-length = search (needs, ok);
-}
 
 -- what is known after the step was found
 abbrev Known : ℕ → Type 0
@@ -170,9 +158,10 @@ run-run-requires t c κs =
     let l = c .before .before .before .before .before .before in
     let k = l .before .before .before in
     let o = l .before .before .before .before .before .before in
-    let n = net t o in
-    (less t o _ (fewer (networkOf n) (l .end .result) (end-is t l) (end-below n (workable t o) _ _ (end-fits t k))),
-    (end-work n (workable t o) _ _ (end-fits t k) (l .end .result) (end-is t l) (sized-of (l .end .lifetimes) (l .end .result) (l .end .ok)) (l .end .ensures .1), omega (arith, o .before .pre .1 .1)))
+    let n = net t o in (
+      less t o _ (fewer (networkOf n) (l .end .result) (end-is t l) (end-below n (workable t o) _ _ (end-fits t k))),
+      (end-work n (workable t o) _ _ (end-fits t k) (l .end .result) (end-is t l) (sized-of (l .end .lifetimes) (l .end .result) (l .end .ok)) (l .end .ensures .1), omega (arith, o .before .pre .1 .1)),
+    )
 
 run-times-requires : (t : ℕ) → run-lts.Need-times-requires (claims t) (run-at t) run.Post
 run-times-requires t c κs =
@@ -236,9 +225,10 @@ run-run-requires-2 t c κs =
     let l = c .before .before .before .before .before .before .before in
     let o = l .before .before .before .before .before .before .before in
     let n = net t o in
-    let r = l .series .result in
-    (less t o _ (unpaired-less (series-plainly t l) r (q .result) (series-is t l) (q .ensures .0) (networkOf n) (series-below n (workable t o) _ _ _ (series-fits t (l .before .before .before .before)))),
-    (unpaired-work (series-plainly t l) r (q .result) (series-is t l) (q .ensures .0) (sized-of (q .lifetimes) (q .result) (q .ok)) (q .ensures .1), omega (arith, o .before .pre .1 .1)))
+    let r = l .series .result in (
+      less t o _ (unpaired-less (series-plainly t l) r (q .result) (series-is t l) (q .ensures .0) (networkOf n) (series-below n (workable t o) _ _ _ (series-fits t (l .before .before .before .before)))),
+      (unpaired-work (series-plainly t l) r (q .result) (series-is t l) (q .ensures .0) (sized-of (q .lifetimes) (q .result) (q .ok)) (q .ensures .1), omega (arith, o .before .pre .1 .1)),
+    )
 
 run-times-factor-requires : (t : ℕ) → run-lts.Need-times-factor-requires (claims t) (run-at t) run.Post
 run-times-factor-requires t c κs =
@@ -330,9 +320,10 @@ run-run-requires-3 t c κs =
     let k = chosen-at t l in
     let o = told t k in
     let n = net t o in
-    let r = l .contracted .result in
-    (less t o _ (unpaired-less (sound-plainly t k) r (q .result) (sound-is t l) (q .ensures .0) (networkOf n) (sound-below n (workable t o) _ (split-fits t k))),
-    (unpaired-work (sound-plainly t k) r (q .result) (sound-is t l) (q .ensures .0) (sized-of (q .lifetimes) (q .result) (q .ok)) (q .ensures .1), omega (arith, o .before .pre .1 .1)))
+    let r = l .contracted .result in (
+      less t o _ (unpaired-less (sound-plainly t k) r (q .result) (sound-is t l) (q .ensures .0) (networkOf n) (sound-below n (workable t o) _ (split-fits t k))),
+      (unpaired-work (sound-plainly t k) r (q .result) (sound-is t l) (q .ensures .0) (sized-of (q .lifetimes) (q .result) (q .ok)) (q .ensures .1), omega (arith, o .before .pre .1 .1)),
+    )
 
 -- the broken branch
 abbrev Worked : ℕ → Type 0
@@ -480,9 +471,10 @@ run-run-requires-4 t c κs =
     let x = n .before .before in
     let r = worked-of t x in
     let k = split-of t r in
-    let o = told t k in
-    (less t o _ (fewer (networkOf (net t o)) (without-it t x) (without-is t x .0) (broken-below (net t o) (workable t o) (place t k) (split-fits t k))),
-    (without-work t n (omega (arith, c .before .before .if2 .left)), omega (arith, o .before .pre .1 .1)))
+    let o = told t k in (
+      less t o _ (fewer (networkOf (net t o)) (without-it t x) (without-is t x .0) (broken-below (net t o) (workable t o) (place t k) (split-fits t k))),
+      (without-work t n (omega (arith, c .before .before .if2 .left)), omega (arith, o .before .pre .1 .1)),
+    )
 
 run-blend-requires-2 : (t : ℕ) → run-lts.Need-blend-requires-2 (claims t) (run-at t) run.Post
 run-blend-requires-2 t c κs =
