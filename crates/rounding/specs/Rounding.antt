@@ -1,6 +1,8 @@
 -- Directed rounding in units of S: what each operation of this crate gives, over whole numbers.
 -- x / y is the quotient rounded down, and 0 where y is 0. Low figures round Down, high figures Up.
-use Prim.Native.Nat.{ℕ, _+_, _-_, _*_, _/_}
+use Prim.Native.Nat.{ℕ, zero, suc, _+_, _-_, _*_, _/_, _%_}
+use mathlib.Core.Bool.{cond}
+use lib.Dec.{eqb}
 use Rattle.rounding.specs.declared.Direction.{Direction}
 use Rattle.rounding.specs.declared.Direction.the-variants.{Down, Up}
 
@@ -32,6 +34,12 @@ either p q = S * (p + q) - p * q
 -- step 6, the value of two links in series: that both are sound where at least one is
 unfoldable pub series : Direction → ℕ → ℕ → ℕ
 series d p q = quotient d (S * (p * q)) (either p q)
+
+-- the digits that the long division of x by w works: the fewest k up to n such that w divides 10 ^ k * x, else n (at-most,
+-- divides, none-below in proofs/FewestDigits.antt)
+unfoldable pub fewestDigits : ℕ → ℕ → ℕ → ℕ
+fewestDigits zero x w = 0
+fewestDigits (suc n) x w = cond (eqb (x % w) 0) 0 (suc (fewestDigits n (10 * x) w))
 
 -- step 6, the factor of two links in series
 unfoldable pub factor : Direction → ℕ → ℕ → ℕ

@@ -3,7 +3,7 @@
 // Values and figures are asked to be at most S: that keeps every product within S * S = 10^18 and so within 64 bits.
 ghost use mathlib.Core.Path.{_≡_};
 ghost use Prim.Native.Nat.{_*_, _/_, _%_, _≤_, _<_};
-ghost use Rattle.rounding.specs.Rounding.{S, quotient, opposite, product, parallel, either, series, factor, split};
+ghost use Rattle.rounding.specs.Rounding.{S, quotient, opposite, product, parallel, either, fewestDigits, series, factor, split};
 
 const UNITS: u64 = 1_000_000_000;
 
@@ -15,6 +15,7 @@ pub enum Direction {
 pub struct Division {
     pub quotient: u64,
     pub remainder: u64,
+    pub digits: u64,
 }
 
 fn reversed(d: Direction) -> Direction
@@ -62,23 +63,48 @@ pub fn either(p: u32, q: u32) -> u64
     UNITS * ((p as u64) + (q as u64)) - (p as u64) * (q as u64)
 }
 
-// S * x / w with its remainder, by nine decimal digits of long division: S * x need not fit 64 bits, and 10 * w does.
+// A division with no remainder.
+fn without_remainder(q: u64, digits: u64) -> Division
+    ensures { λ r. ⌜ (r .quotient ≡ q) × (r .remainder ≡ 0) × (r .digits ≡ digits) ⌝ }
+{
+    Division {
+        quotient: q,
+        remainder: 0,
+        digits,
+    }
+}
+
+// S * x / w with its remainder, by decimal digits of long division: S * x need not fit 64 bits, and 10 * w does. Nine digits,
+// fewer where the remainder becomes 0: the others are zeros, which are filled in.
 pub fn long_division(x: u64, w: u64) -> Division
     requires { ⌜ (0 < w) × (x ≤ w) × (w ≤ S * S) ⌝ }
-    ensures { λ r. ⌜ (r .quotient ≡ S * x / w) × (r .remainder ≡ S * x % w) ⌝ }
+    ensures { λ r. ⌜ (r .quotient ≡ S * x / w) × (r .remainder ≡ S * x % w) × (r .digits ≡ fewestDigits 9 x w) ⌝ }
 {
+    if x == 0 {
+        return without_remainder(0, 0);
+    }
+    if x == w {
+        return without_remainder(UNITS, 0);
+    }
     let mut quotient: u64 = 0;
     let mut remainder = x;
+    let mut unit = UNITS;
     let mut digits: u64 = 0;
     while digits < 9 {
         let tenfold = 10 * remainder;
-        quotient = 10 * quotient + tenfold / w;
-        remainder = tenfold % w;
+        let d = tenfold / w;
+        quotient = 10 * quotient + d;
+        remainder = tenfold - d * w;
+        unit = unit / 10;
         digits += 1;
+        if remainder == 0 {
+            return without_remainder(quotient * unit, digits);
+        }
     }
     Division {
         quotient,
         remainder,
+        digits,
     }
 }
 
