@@ -50,7 +50,7 @@ module _ (x w : ℕ) (pos : 0 < w) (le : x ≤ w) where
   few : (k q r : ℕ) → Worked x w k q r → q ≤ 10 ^ k
   few k q r h = le-of-mul-le-mul-right (le-trans (le-trans (le-add-right (q * w) r) (le-of-eq (sym h))) (mul-le-mul-left (10 ^ k) le)) pos
 
-  pub fits : (k q r : ℕ) → k ≤ 9 → Worked x w k q r → q ≤ S
+  fits : (k q r : ℕ) → k ≤ 9 → Worked x w k q r → q ≤ S
   fits k q r h e = le-trans (few k q r e) (pow-le-pow-right (lit< tt) h)
 
   -- where no remainder is left after k digits, the others are zeros

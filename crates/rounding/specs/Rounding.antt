@@ -35,12 +35,6 @@ either p q = S * (p + q) - p * q
 unfoldable pub series : Direction → ℕ → ℕ → ℕ
 series d p q = quotient d (S * (p * q)) (either p q)
 
--- the digits that the long division of x by w works: the fewest k up to n such that w divides 10 ^ k * x, else n (at-most,
--- divides, none-below in proofs/FewestDigits.antt)
-unfoldable pub fewestDigits : ℕ → ℕ → ℕ → ℕ
-fewestDigits zero x w = 0
-fewestDigits (suc n) x w = cond (eqb (x % w) 0) 0 (suc (fewestDigits n (10 * x) w))
-
 -- step 6, the factor of two links in series
 unfoldable pub factor : Direction → ℕ → ℕ → ℕ
 factor d p q = quotient d (either p q) S
@@ -48,3 +42,9 @@ factor d p q = quotient d (either p q) S
 -- step 7, the split on a link of value p
 unfoldable pub split : Direction → ℕ → ℕ → ℕ → ℕ
 split d p sound broken = quotient d (p * sound + (S - p) * broken) S
+
+-- the decimal digits that the long division of x by w works: the fewest k up to n such that w divides 10 ^ k * x, else n
+-- (at-most, divides, none-below in proofs/FewestDigits.antt)
+unfoldable pub fewestDigits : ℕ → ℕ → ℕ → ℕ
+fewestDigits zero x w = 0
+fewestDigits (suc n) x w = cond (eqb (x % w) 0) 0 (suc (fewestDigits n (10 * x) w))

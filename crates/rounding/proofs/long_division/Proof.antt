@@ -1,21 +1,19 @@
 -- After `digits` digits, 10 ^ digits * x is quotient * w + remainder, the remainder is not 0, and its digits are left to work.
-use Prim.Native.Nat.{ℕ, _+_, _-_, _*_, _/_, _%_, _^_, _≤_, _<_}
-use mathlib.Core.Path.{_≡_, refl, sym, ap, _∙_, subst}
-use native.Mathlib.Nat.{one-mul}
+use Prim.Native.Nat.{_+_, _-_, _*_, _/_, _^_}
+use mathlib.Core.Path.{refl}
+use native.Mathlib.Nat.{one-mul, div-mul-le-self}
 use native.Mathlib.Omega.{arith}
 use borrow.Author.Needs.{needs}
-use Rattle.rounding.specs.Rounding.{S, fewestDigits}
-use Rattle.rounding.proofs.FewestDigits.{stops}
-use Rattle.rounding.proofs.Digits.{Between, multiple, nine, fits, Turn, turn, Last, last}
+use Rattle.rounding.proofs.Digits.{Between, multiple, nine, Turn, turn, Last, last}
 use Rattle.rounding.proofs.long_division.Statement.{statement}
 use Rattle.rounding.proofs.long_division.Tie as tie
 
 abbrev Inv-loop : tie.InvT-loop
-Inv-loop x w quotient₀ remainder₀ unit₀ digits₀ quotient remainder unit digits =
+Inv-loop x w reciprocal quotient₀ remainder₀ unit₀ digits₀ quotient remainder unit digits =
     Between x w quotient remainder unit digits
 
 abbrev μ-loop : tie.MeasureT-loop
-μ-loop x w quotient₀ remainder₀ unit₀ digits₀ quotient remainder unit digits = 9 - digits
+μ-loop x w reciprocal quotient₀ remainder₀ unit₀ digits₀ quotient remainder unit digits = 9 - digits
 
 without-remainder-requires : tie.Need-without-remainder-requires Inv-loop μ-loop
 without-remainder-requires c κs = tt
@@ -37,6 +35,15 @@ returns-2 c =
     let r = c .without-remainder2 .ensures in
     (omega (arith, r .0, e .0), omega (arith, r .1, e .1), omega (arith, r .2, e .2))
 
+mul-reciprocal : tie.Need-mul-reciprocal Inv-loop μ-loop
+mul-reciprocal c = search needs
+
+add-reciprocal : tie.Need-add-reciprocal Inv-loop μ-loop
+add-reciprocal c = search needs
+
+div-reciprocal : tie.Need-div-reciprocal Inv-loop μ-loop
+div-reciprocal c = search needs
+
 loop-holds : tie.Need-loop-holds Inv-loop μ-loop
 loop-holds c =
     (omega arith, omega (arith, c .before .if1 .left), omega (arith, c .if2 .left), refl, omega (arith, one-mul (c .before .before .args .x)), omega arith)
@@ -44,19 +51,19 @@ loop-holds c =
 mul-tenfold : tie.Need-mul-tenfold Inv-loop μ-loop
 mul-tenfold c = omega arith
 
-div-d : tie.Need-div-d Inv-loop μ-loop
-div-d c = search needs
+digit-requires : tie.Need-digit-requires Inv-loop μ-loop
+digit-requires c κs =
+    let parts = c .before .before .before .before .args .w / 2 ^ 29 + 1 in
+    (omega arith, omega arith, omega (arith, div-mul-le-self (10 * 2 ^ 60) parts))
 
-turn-of : (c : tie.In-loop Inv-loop μ-loop) → Turn (c .before .before .before .before .args .x) (c .before .before .before .before .args .w) (c .before .loop .quotient) (c .before .loop .remainder) (c .before .loop .unit) (c .before .loop .digits) (10 * c .before .loop .remainder / c .before .before .before .before .args .w)
+-- the digit of a turn, and what it leaves
+turn-of : (c : tie.After-digit Inv-loop μ-loop) → Turn (c .before .before .before .before .before .args .x) (c .before .before .before .before .before .args .w) (c .before .before .loop .quotient) (c .before .before .loop .remainder) (c .before .before .loop .unit) (c .before .before .loop .digits) (c .digit .result)
 turn-of c =
-    let a = c .before .before .before .before in
-    turn _ _ _ _ _ _ _ (a .pre .0) (a .pre .1) (c .loop-test .taken) (c .before .loop .inv) refl
+    let a = c .before .before .before .before .before in
+    turn _ _ _ _ _ _ _ (a .pre .0) (a .pre .1) (omega (arith, c .before .loop-test .taken)) (c .before .before .loop .inv) (c .digit .ensures)
 
 mul-quotient : tie.Need-mul-quotient Inv-loop μ-loop
-mul-quotient c =
-    let s = c .before .loop in
-    let a = c .before .before .before .before in
-    omega (arith, fits (a .args .x) (a .args .w) (a .pre .0) (a .pre .1) (s .digits) (s .quotient) (s .remainder) (s .inv .0) (s .inv .4))
+mul-quotient c = omega (arith, turn-of c .fits-too)
 
 add-quotient : tie.Need-add-quotient Inv-loop μ-loop
 add-quotient c = omega (arith, turn-of c .fits-too)
@@ -71,10 +78,10 @@ add-digits : tie.Need-add-digits Inv-loop μ-loop
 add-digits c = search needs
 
 -- the turn that left no remainder
-last-of : (c : tie.Then3 Inv-loop μ-loop) → Last (c .before .before .before .before .before .args .x) (c .before .before .before .before .before .args .w) (c .before .before .loop .quotient) (c .before .before .loop .remainder) (c .before .before .loop .unit) (c .before .before .loop .digits) (10 * c .before .before .loop .remainder / c .before .before .before .before .before .args .w)
+last-of : (c : tie.Then3 Inv-loop μ-loop) → Last (c .before .before .before .before .before .before .args .x) (c .before .before .before .before .before .before .args .w) (c .before .before .before .loop .quotient) (c .before .before .before .loop .remainder) (c .before .before .before .loop .unit) (c .before .before .before .loop .digits) (c .before .digit .result)
 last-of c =
-    let a = c .before .before .before .before .before in
-    last _ _ _ _ _ _ _ (a .pre .0) (a .pre .1) (c .before .loop-test .taken) (turn-of (c .before)) (omega (arith, c .if3 .taken))
+    let a = c .before .before .before .before .before .before in
+    last _ _ _ _ _ _ _ (a .pre .0) (a .pre .1) (omega (arith, c .before .before .loop-test .taken)) (turn-of (c .before)) (omega (arith, c .if3 .taken))
 
 mul-without-remainder : tie.Need-mul-without-remainder Inv-loop μ-loop
 mul-without-remainder c = omega (arith, turn-of (c .before) .fits-too, last-of c .fits-filled)
@@ -97,7 +104,11 @@ loop-again c =
     (omega arith, omega (arith, c .if3 .left), t .below, t .unit, omega (arith, t .worked), omega (arith, t .left))
 
 returns-4 : tie.Need-returns-4 Inv-loop μ-loop
-returns-4 c = nine _ _ _ _ _ _ (c .before .loop .inv) (omega arith)
+returns-4 c =
+    let a = c .before .before .before .before in
+    let s = c .before .loop in
+    let e = nine (a .args .x) (a .args .w) (s .quotient) (s .remainder) (s .unit) (s .digits) (s .inv) (omega arith) in
+    (omega (arith, e .0), omega (arith, e .1), omega (arith, e .2))
 
 pub long-division-spec : {M : Type 1} → statement M
 long-division-spec =
@@ -109,9 +120,12 @@ long-division-spec =
     returns
     without-remainder-requires-2
     returns-2
+    mul-reciprocal
+    add-reciprocal
+    div-reciprocal
     loop-holds
     mul-tenfold
-    div-d
+    digit-requires
     mul-quotient
     add-quotient
     mul-remainder
