@@ -101,7 +101,7 @@ loop-less c = omega arith
 loop-again : tie.Need-loop-again Inv-loop μ-loop
 loop-again c =
     let t = turn-of (c .before) in
-    (omega arith, omega (arith, c .if3 .left), t .below, t .unit, omega (arith, t .worked), omega (arith, t .left))
+    (omega arith, omega (arith, c .if3 .left), omega (arith, t .below), omega (arith, t .unit), omega (arith, t .worked), omega (arith, t .left))
 
 returns-4 : tie.Need-returns-4 Inv-loop μ-loop
 returns-4 c =
