@@ -12,7 +12,7 @@ use Rattle.rounding.proofs.FewestDigits.{stops, no-more, one-less}
 abbrev pub Worked : ℕ → ℕ → ℕ → ℕ → ℕ → Type 0
 Worked x w k q r = 10 ^ k * x ≡ q * w + r
 
--- between two digits: k are worked, the remainder r is not 0 and has the rest of the digits, and u is the unit of the last one
+-- between two digits: k are worked, the remainder r is not 0, u is the unit of the last digit, and the digits of r are left
 abbrev pub Between : ℕ → ℕ → ℕ → ℕ → ℕ → ℕ → Type 0
 Between x w q r u k =
     (k ≤ 9) × (0 < r) × (r < w) × (u ≡ 10 ^ (9 - k)) × Worked x w k q r × (fewestDigits 9 x w ≡ k + fewestDigits (9 - k) r w)
@@ -50,8 +50,8 @@ module _ (x w : ℕ) (pos : 0 < w) (le : x ≤ w) where
   few : (k q r : ℕ) → Worked x w k q r → q ≤ 10 ^ k
   few k q r h = le-of-mul-le-mul-right (le-trans (le-trans (le-add-right (q * w) r) (le-of-eq (sym h))) (mul-le-mul-left (10 ^ k) le)) pos
 
-  fits : (k q r : ℕ) → k ≤ 9 → Worked x w k q r → q ≤ S
-  fits k q r h e = le-trans (few k q r e) (pow-le-pow-right (lit< tt) h)
+  in-range : (k q r : ℕ) → k ≤ 9 → Worked x w k q r → q ≤ S
+  in-range k q r h e = le-trans (few k q r e) (pow-le-pow-right (lit< tt) h)
 
   -- where no remainder is left after k digits, the others are zeros
   filled-in : (k q u : ℕ) → k ≤ 9 → u ≡ 10 ^ (9 - k) → Worked x w k q 0 → S * x ≡ q * u * w
@@ -60,12 +60,12 @@ module _ (x w : ℕ) (pos : 0 < w) (le : x ≤ w) where
       let product = ap (λ n. n * u) (worked ∙ add-zero (q * w)) in
       omega (arith, ap (λ n. n * x) all, mul-right-comm (10 ^ k) u x, product, mul-right-comm q w u)
 
--- one digit more
+-- one digit more, d
 module _ (x w q r u k d : ℕ) where
   pub record Turn : Type 0 where
     pub small : d * w ≤ 10 * r
     pub below : 10 * r - d * w < w
-    pub fits-too : 10 * q + d ≤ S
+    pub fits : 10 * q + d ≤ S
     pub unit : u / 10 ≡ 10 ^ (9 - (k + 1))
     pub worked : Worked x w (k + 1) (10 * q + d) (10 * r - d * w)
     pub left : fewestDigits 9 x w ≡ k + 1 + fewestDigits (9 - (k + 1)) (10 * r - d * w) w
@@ -80,7 +80,7 @@ module _ (x w q r u k d : ℕ) where
       record {
         small = omega (arith, part);
         below = omega (arith, product, lt-div-mul-add {a = 10 * r} pos);
-        fits-too = fits x w pos le (k + 1) (10 * q + d) (10 * r - d * w) (omega arith) next;
+        fits = in-range x w pos le (k + 1) (10 * q + d) (10 * r - d * w) (omega arith) next;
         unit = div-eq-of-eq-mul-left (lit< tt) (b .3 ∙ ap (λ m. 10 ^ m) fewer ∙ pow-suc 10 (9 - (k + 1)));
         worked = next;
         left = omega (arith, b .5, ap (λ m. fewestDigits m r w) fewer, count);
@@ -88,7 +88,7 @@ module _ (x w q r u k d : ℕ) where
 
   -- it left no remainder
   pub record Last : Type 0 where
-    pub fits-filled : (10 * q + d) * (u / 10) ≤ S
+    pub fits : (10 * q + d) * (u / 10) ≤ S
     pub quotient : (10 * q + d) * (u / 10) ≡ S * x / w
     pub remainder : 0 ≡ S * x % w
     pub digits : k + 1 ≡ fewestDigits 9 x w
@@ -100,7 +100,7 @@ module _ (x w q r u k d : ℕ) where
       let exact = filled-in x w pos le (k + 1) (10 * q + d) (u / 10) (omega arith) (t .unit) (omega (arith, t .worked, none)) in
       let halves = whole-and-rest x w ((10 * q + d) * (u / 10)) 0 pos (omega (arith, exact)) in
       record {
-        fits-filled = le-of-mul-le-mul-right (le-trans (le-of-eq (sym exact)) (mul-le-mul-left S le)) pos;
+        fits = le-of-mul-le-mul-right (le-trans (le-of-eq (sym exact)) (mul-le-mul-left S le)) pos;
         quotient = halves .0;
         remainder = halves .1;
         digits = omega (arith, t .left, count, none-left);

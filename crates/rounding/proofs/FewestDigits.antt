@@ -1,9 +1,9 @@
 -- What the number of worked digits means, and how it goes on from digit to digit.
-use Prim.Native.Nat.{ℕ, zero, suc, _+_, _-_, _*_, _/_, _%_, _^_, _≤_, _<_, _∣_, zero-le, suc-le-suc}
+use Prim.Native.Nat.{ℕ, zero, suc, _+_, _*_, _%_, _^_, _≤_, _<_, _∣_, zero-le, suc-le-suc}
 use mathlib.Core.Path.{_≡_, refl, sym, ap, _∙_, subst}
 use mathlib.Core.List.{List, [], _∷_, map}
 use mathlib.Core.Bool.{Bool, cond}
-use native.Mathlib.Nat.{pow-suc, mul-assoc, one-mul, add-mul, mul-add-mod-self-right, mod-eq-of-lt, mod-eq-zero-of-dvd, dvd-of-mod-eq-zero, not-suc-le-zero}
+use native.Mathlib.Nat.{pow-suc, mul-assoc, one-mul, mul-add-mod-self-right, mod-eq-of-lt, mod-eq-zero-of-dvd, dvd-of-mod-eq-zero, not-suc-le-zero}
 use native.Mathlib.Omega.{arith}
 use native.Mathlib.Decide.{decDvd}
 use borrow.Author.Tests.{eq-eqb, ne-eqb}

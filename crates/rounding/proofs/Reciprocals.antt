@@ -1,11 +1,11 @@
 -- A digit by a reciprocal c of w, in parts of A: r / A * c / B, where c is at most 10 * B / (w / A + 1).
 use Prim.Native.Nat.{ℕ, _+_, _-_, _*_, _/_, _≤_, _<_}
 use mathlib.Core.Path.{_≡_, sym}
-use native.Mathlib.Nat.{add-mul, one-mul, mul-comm, mul-assoc, mul-right-comm, mul-left-comm, mul-le-mul-left, mul-le-mul-right, le-trans, le-of-eq, le-of-mul-le-mul-right, lt-of-mul-lt-mul-right, div-mul-le-self, lt-div-mul-add, div-eq-of-lt-le}
+use native.Mathlib.Nat.{add-mul, one-mul, mul-comm, mul-assoc, mul-right-comm, mul-left-comm, mul-le-mul-left, mul-le-mul-right, le-of-mul-le-mul-right, lt-of-mul-lt-mul-right, div-mul-le-self, lt-div-mul-add, div-eq-of-lt-le}
 use native.Mathlib.Omega.{arith}
 
 module _ (A B r w c : ℕ) (posA : 0 < A) (posB : 0 < B) (below : r < w) (over : c * (w / A + 1) ≤ 10 * B) where
-  -- the parts of w, rounded up or one more
+  -- w is less than w / A + 1 parts
   parts : w < (w / A + 1) * A
   parts = omega (arith, add-mul (w / A) 1 A, one-mul A, lt-div-mul-add {a = w} posA)
 

@@ -79,7 +79,8 @@ const PART: u64 = 536_870_912;
 
 const SCALE: u64 = 1_152_921_504_606_846_976;
 
-// 10 * r / w, by a reciprocal of w that is not too large: what that gives is never too much, and hardly ever too little.
+// 10 * r / w, by a reciprocal of w that is not too large: what it gives is never too much, and hardly ever too little where w is
+// large.
 fn digit(r: u64, w: u64, reciprocal: u64) -> u64
     requires { ⌜ (r < w) × (w ≤ S * S) × (reciprocal * (w / 2 ^ 29 + 1) ≤ 10 * 2 ^ 60) ⌝ }
     ensures { λ d. ⌜ d ≡ 10 * r / w ⌝ }

@@ -1,7 +1,7 @@
--- After `digits` digits, 10 ^ digits * x is quotient * w + remainder, the remainder is not 0, and its digits are left to work.
-use Prim.Native.Nat.{_+_, _-_, _*_, _/_, _^_}
+-- Wherever another digit is worked, 10 ^ digits * x is quotient * w + remainder, and the remainder is not 0: `Between`.
+use Prim.Native.Nat.{_-_}
 use mathlib.Core.Path.{refl}
-use native.Mathlib.Nat.{one-mul, div-mul-le-self}
+use native.Mathlib.Nat.{one-mul, le-trans, div-mul-le-self}
 use native.Mathlib.Omega.{arith}
 use borrow.Author.Needs.{needs}
 use Rattle.rounding.proofs.Digits.{Between, multiple, nine, Turn, turn, Last, last}
@@ -52,9 +52,7 @@ mul-tenfold : tie.Need-mul-tenfold Inv-loop μ-loop
 mul-tenfold c = omega arith
 
 digit-requires : tie.Need-digit-requires Inv-loop μ-loop
-digit-requires c κs =
-    let parts = c .before .before .before .before .args .w / 2 ^ 29 + 1 in
-    (omega arith, omega arith, omega (arith, div-mul-le-self (10 * 2 ^ 60) parts))
+digit-requires c κs = (omega arith, omega arith, le-trans (div-mul-le-self _ _) (omega arith))
 
 -- the digit of a turn, and what it leaves
 turn-of : (c : tie.After-digit Inv-loop μ-loop) → Turn (c .before .before .before .before .before .args .x) (c .before .before .before .before .before .args .w) (c .before .before .loop .quotient) (c .before .before .loop .remainder) (c .before .before .loop .unit) (c .before .before .loop .digits) (c .digit .result)
@@ -63,10 +61,10 @@ turn-of c =
     turn _ _ _ _ _ _ _ (a .pre .0) (a .pre .1) (omega (arith, c .before .loop-test .taken)) (c .before .before .loop .inv) (c .digit .ensures)
 
 mul-quotient : tie.Need-mul-quotient Inv-loop μ-loop
-mul-quotient c = omega (arith, turn-of c .fits-too)
+mul-quotient c = omega (arith, turn-of c .fits)
 
 add-quotient : tie.Need-add-quotient Inv-loop μ-loop
-add-quotient c = omega (arith, turn-of c .fits-too)
+add-quotient c = omega (arith, turn-of c .fits)
 
 mul-remainder : tie.Need-mul-remainder Inv-loop μ-loop
 mul-remainder c = omega (arith, turn-of c .small)
@@ -84,7 +82,7 @@ last-of c =
     last _ _ _ _ _ _ _ (a .pre .0) (a .pre .1) (omega (arith, c .before .before .loop-test .taken)) (turn-of (c .before)) (omega (arith, c .if3 .taken))
 
 mul-without-remainder : tie.Need-mul-without-remainder Inv-loop μ-loop
-mul-without-remainder c = omega (arith, turn-of (c .before) .fits-too, last-of c .fits-filled)
+mul-without-remainder c = omega (arith, turn-of (c .before) .fits, last-of c .fits)
 
 without-remainder-requires-3 : tie.Need-without-remainder-requires-3 Inv-loop μ-loop
 without-remainder-requires-3 c κs = tt
