@@ -69,14 +69,21 @@ pub fn split(side: Side, p: u32, sound: u32, broken: u32) -> u32 {
     rounded(side, sum, WHOLE)
 }
 
-/// The quotient and the remainder of S * x by w.
-pub fn long_division(x: u64, w: u64) -> (u64, u64) {
+/// The fewest k up to nine such that w divides 10^k * x, else nine.
+fn digits(x: u64, w: u64) -> u64 {
+    let divides = |k: &u32| 10u128.pow(*k) * u128::from(x) % u128::from(w) == 0;
+    u64::from((0..9).find(divides).unwrap_or(9))
+}
+
+/// The quotient and the remainder of S * x by w, and how many digits are worked.
+pub fn long_division(x: u64, w: u64) -> (u64, u64, u64) {
     let dividend = WHOLE * u128::from(x);
     let quotient = dividend / u128::from(w);
     let remainder = dividend - quotient * u128::from(w);
     (
         u64::try_from(quotient).expect("x is at most w"),
         u64::try_from(remainder).expect("a remainder is below w"),
+        digits(x, w),
     )
 }
 

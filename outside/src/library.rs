@@ -13,6 +13,7 @@ mod c {
         pub fn rounding_split(up: bool, p: u32, sound: u32, broken: u32) -> u32;
         pub fn rounding_quotient(x: u64, w: u64) -> u64;
         pub fn rounding_remainder(x: u64, w: u64) -> u64;
+        pub fn rounding_digits(x: u64, w: u64) -> u64;
         pub fn rating(k: usize) -> u32;
     }
 }
@@ -47,9 +48,15 @@ pub fn split(side: Side, p: u32, sound: u32, broken: u32) -> u32 {
     unsafe { c::rounding_split(up(side), p, sound, broken) }
 }
 
-/// The quotient and the remainder of S * x by w.
-pub fn long_division(x: u64, w: u64) -> (u64, u64) {
-    unsafe { (c::rounding_quotient(x, w), c::rounding_remainder(x, w)) }
+/// The quotient and the remainder of S * x by w, and how many digits were worked.
+pub fn long_division(x: u64, w: u64) -> (u64, u64, u64) {
+    unsafe {
+        (
+            c::rounding_quotient(x, w),
+            c::rounding_remainder(x, w),
+            c::rounding_digits(x, w),
+        )
+    }
 }
 
 pub fn rating(k: usize) -> u32 {

@@ -47,7 +47,7 @@ fn compare_division(x: u64, w: u64) {
     let value = if within {
         arithmetic::long_division(x, w)
     } else {
-        (u64::MAX, u64::MAX)
+        (u64::MAX, u64::MAX, u64::MAX)
     };
     assert_eq!(library::long_division(x, w), value, "long division {x} {w}");
 }
@@ -181,5 +181,85 @@ fn a_million_random_divisions() {
         let x = random.of_any_size(w);
         compare_division(x, w);
         compare_division(w - x, w);
+    }
+}
+
+/// No digit where x is 0 and where x = w, 3 for 0.125, 1 for 0.1, 9 where a remainder is left.
+#[test]
+fn digits_of_the_request() {
+    let whole = u64::from(S);
+    for w in [1, 2, 3, 7, 10, whole, SQUARE - 1, SQUARE] {
+        assert_eq!(library::long_division(0, w), (0, 0, 0));
+        assert_eq!(library::long_division(w, w), (whole, 0, 0));
+    }
+    for (x, w) in [(1, 8), (125, 1_000), (SQUARE / 8, SQUARE)] {
+        assert_eq!(library::long_division(x, w), (125_000_000, 0, 3));
+    }
+    for (x, w) in [(1, 10), (7, 70), (SQUARE / 10, SQUARE)] {
+        assert_eq!(library::long_division(x, w), (100_000_000, 0, 1));
+    }
+    for (x, w) in [(1, 3), (1, 1_024), (1, SQUARE), (SQUARE - 1, SQUARE)] {
+        let (_, remainder, digits) = library::long_division(x, w);
+        assert_ne!(remainder, 0);
+        assert_eq!(digits, 9);
+    }
+}
+
+/// Decimals whose last digit is not 0, in lowest terms and in others: as many digits are worked as they have.
+#[test]
+fn decimals_of_every_length() {
+    let mut random = Random::new(4);
+    for length in 1..=9 {
+        let ten = 10u64.pow(length);
+        let zeros = 10u64.pow(9 - length);
+        for _ in 0..10_000 {
+            let decimal = random.up_to(ten / 10 - 1) * 10 + random.up_to(8) + 1;
+            let multiple = random.of_any_size(SQUARE / ten - 1) + 1;
+            let value = (decimal * zeros, 0, u64::from(length));
+            let worked = library::long_division(decimal * multiple, ten * multiple);
+            assert_eq!(worked, value, "{decimal} {ten} times {multiple}");
+        }
+    }
+}
+
+/// Divisors that divide a power of 10, and their multiples.
+#[test]
+fn divisors_of_twos_and_fives() {
+    let mut random = Random::new(5);
+    let powers = |base: u64| std::iter::successors(Some(1u64), move |p| p.checked_mul(base));
+    for two in powers(2) {
+        for five in powers(5) {
+            let Some(w) = two.checked_mul(five).filter(|w| *w <= SQUARE) else {
+                continue;
+            };
+            for x in [0, 1, 2, 3, 5, w / 2, w - 1, w] {
+                compare_division(x.min(w), w);
+            }
+            for _ in 0..100 {
+                compare_division(random.up_to(w), w);
+                let multiple = random.of_any_size(SQUARE / w - 1) + 1;
+                compare_division(random.up_to(w) * multiple, w * multiple);
+            }
+        }
+    }
+}
+
+/// A digit is worked by a reciprocal that counts w in parts of 2^29: divisors about whole numbers of parts, and x where a digit
+/// changes.
+#[test]
+fn divisors_about_the_parts_of_the_reciprocal() {
+    let mut random = Random::new(6);
+    let part = 1u64 << 29;
+    let parts = (0..32).map(|k| 1 << k).filter(|k| *k <= SQUARE / part);
+    let mut divisors: Vec<u64> = parts.map(|k| k * part).collect();
+    divisors.extend((0..300).map(|_| (random.up_to(SQUARE / part - 2) + 1) * part));
+    divisors.extend((0..300).map(|_| random.of_any_size(SQUARE - 2) + 2));
+    for w in divisors.into_iter().flat_map(|w| [w - 1, w, w + 1]) {
+        for digit in 0..=10 {
+            let x = (u128::from(w) * digit / 10) as u64;
+            for x in [x.saturating_sub(1), x, x + 1] {
+                compare_division(x, w);
+            }
+        }
     }
 }

@@ -1,3 +1,5 @@
 pub mod Laws
 pub mod Operations
+pub mod FewestDigits
 pub mod Digits
+pub mod Reciprocals

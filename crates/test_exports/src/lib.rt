@@ -4,7 +4,7 @@ ghost use mathlib.Core.Path.{_≡_};
 ghost use mathlib.Core.Bool.{_&&_};
 ghost use Prim.Native.Nat.{_*_, _/_, _%_};
 ghost use lib.Dec.{ltb};
-ghost use Rattle.rounding.specs.Rounding.{S, product, parallel, either, series, factor, split};
+ghost use Rattle.rounding.specs.Rounding.{S, product, parallel, either, series, factor, split, fewestDigits};
 ghost use Rattle.ratings.specs.Ratings.{T};
 ghost use Rattle.test_exports.specs.Exports.{direction, chances, divisible, answered};
 use rounding::Direction;
@@ -124,6 +124,17 @@ pub extern "C" fn rounding_remainder(x: u64, w: u64) -> u64
 {
     if divisible(x, w) {
         rounding::long_division(x, w).remainder
+    } else {
+        LARGEST_64
+    }
+}
+
+#[no_mangle]
+pub extern "C" fn rounding_digits(x: u64, w: u64) -> u64
+    ensures { λ r. ⌜ r ≡ answered (divisible x w) (fewestDigits 9 x w) 18446744073709551615 ⌝ }
+{
+    if divisible(x, w) {
+        rounding::long_division(x, w).digits
     } else {
         LARGEST_64
     }
