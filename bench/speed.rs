@@ -1,13 +1,14 @@
-//! Nanoseconds a split on three fixed plans: the library, through its figure call, beside the straightforward version in
-//! `outside/src/rule.rs`, taking turns in one run; then the time of a whole listing by the program.
+//! Nanoseconds a split on three fixed plans: the library, through its figure call, beside the rule in C with bit sets,
+//! `outside/c/rule.c`, and the straightforward version, `outside/src/rule.rs`, taking turns in one run; then the time of a whole
+//! listing by the program.
 //! As a test, without `--bench` among its words, it does everything once on a small scale and judges no time.
 
 use outside::arithmetic::S;
-use outside::calls::{answer_bytes, read, Call, ANSWER};
+use outside::calls::{answer_of, read};
 use outside::listing::{by_the_calls, written};
 use outside::plans::{Link, Plan};
 use outside::repository::plan;
-use outside::rule::{figure, Network};
+use outside::versions::{in_c, library, straightforward, Version};
 use std::hint::black_box;
 use std::time::Instant;
 
@@ -53,22 +54,8 @@ fn complete() -> Plan {
     plan
 }
 
-/// The 16 bytes of a plan's figure.
-type Version = fn(&Plan, u64) -> Vec<u8>;
-
-fn straightforward(plan: &Plan, limit: u64) -> Vec<u8> {
-    answer_bytes(&figure(Network::from(plan), limit).into())
-}
-
-fn library(plan: &Plan, limit: u64) -> Vec<u8> {
-    let plan = &plan.bytes();
-    let mut answer = vec![0; ANSWER];
-    let call = Call::Figure { plan, limit };
-    assert_eq!(outside::desk::made(&call, &mut answer), 0);
-    answer
-}
-
-const VERSIONS: [Version; 2] = [library, straightforward];
+/// In the order of their columns.
+const VERSIONS: [Version; 3] = [library, in_c, straightforward];
 
 /// The times of some runs, in ascending order.
 struct Times(Vec<f64>);
@@ -91,6 +78,11 @@ impl Times {
         self.0[self.0.len() - 1]
     }
 
+    fn shown(&self) -> String {
+        let (median, least, most) = (self.median(), self.least(), self.most());
+        format!("{median:.0} ({least:.0} to {most:.0})")
+    }
+
     /// By how much the slowest run took longer than the fastest, in hundredths.
     fn noise(&self) -> f64 {
         (self.most() / self.least() - 1.0) * 100.0
@@ -99,10 +91,10 @@ impl Times {
 
 /// The nanoseconds a split of each version, in turns, and the splits of the plan. Each run works a plan of few splits as
 /// often as it takes to fill the limit. All answers have to agree.
-fn measured(plan: &Plan, scale: &Scale) -> ([Times; 2], u64) {
+fn measured(plan: &Plan, scale: &Scale) -> ([Times; 3], u64) {
     let limit = scale.limit;
     let expected = straightforward(plan, limit);
-    let splits = figure(Network::from(plan), limit).steps;
+    let splits = answer_of(&expected).steps;
     let rounds = limit / splits;
     let run = |version: &Version| {
         let started = Instant::now();
@@ -112,7 +104,7 @@ fn measured(plan: &Plan, scale: &Scale) -> ([Times; 2], u64) {
         }
         started.elapsed().as_nanos() as f64 / (rounds * splits) as f64
     };
-    let mut taken = [Vec::new(), Vec::new()];
+    let mut taken = [const { Vec::new() }; 3];
     for _ in 0..scale.runs {
         for (version, taken) in VERSIONS.iter().zip(&mut taken) {
             taken.push(run(version));
@@ -121,9 +113,30 @@ fn measured(plan: &Plan, scale: &Scale) -> ([Times; 2], u64) {
     (taken.map(Times::new), splits)
 }
 
-fn row(cells: [&str; 5]) {
-    let [plan, splits, library, straightforward, times] = cells;
-    println!("| {plan:43} | {splits:>7} | {library:>19} | {straightforward:>19} | {times:>13} |");
+fn row(cells: [&str; 7]) {
+    let [plan, splits, library, in_c, ratio, straightforward, faster] = cells;
+    println!("| {plan:27} | {splits:>6} | {library:>19} | {in_c:>17} | {ratio:>11} | {straightforward:>19} | {faster:>13} |");
+}
+
+/// Prints the row of a plan, and returns the noise.
+fn measured_row(name: &str, plan: &Plan, scale: &Scale) -> f64 {
+    let (times, splits) = measured(plan, scale);
+    let name = format!("{name}: {} nodes, {} links", plan.nodes, plan.links.len());
+    let [library, in_c, straightforward] = times.each_ref().map(Times::median);
+    let ratio = format!("{:.2}", library / in_c);
+    let faster = format!("{:.1}", straightforward / library);
+    let [library, in_c, straightforward] = &times.each_ref().map(Times::shown);
+    let splits = &splits.to_string();
+    row([
+        &name,
+        splits,
+        library,
+        in_c,
+        &ratio,
+        straightforward,
+        &faster,
+    ]);
+    times.iter().map(Times::noise).fold(0.0, f64::max)
 }
 
 /// Prints the table, and returns the largest noise.
@@ -136,26 +149,19 @@ fn figures(scale: &Scale) -> f64 {
         "plan",
         "splits",
         "library",
+        "C with bit sets",
+        "library / C",
         "straightforward",
         "times as fast",
     ]);
-    row(["---", "--:", "--:", "--:", "--:"]);
+    row(["---", "--:", "--:", "--:", "--:", "--:", "--:"]);
     let plans = [
-        ("torus of 4 x 6", torus()),
+        ("torus", torus()),
         ("mesh", read(&plan("mesh")).unwrap()),
-        ("complete, 28 links twice", complete()),
+        ("complete", complete()),
     ];
-    let mut noise: f64 = 0.0;
-    for (name, plan) in plans {
-        let ([library, other], splits) = measured(&plan, scale);
-        let name = format!("{name}: {} nodes, {} links", plan.nodes, plan.links.len());
-        let shown = |t: &Times| format!("{:.0} ({:.0} to {:.0})", t.median(), t.least(), t.most());
-        let faster = format!("{:.1}", other.median() / library.median());
-        let splits = splits.to_string();
-        row([&name, &splits, &shown(&library), &shown(&other), &faster]);
-        noise = noise.max(library.noise()).max(other.noise());
-    }
-    noise
+    let noise = plans.map(|(name, plan)| measured_row(name, &plan, scale));
+    noise.into_iter().fold(0.0, f64::max)
 }
 
 /// Prints the time of a whole listing, and returns the noise.

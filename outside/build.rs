@@ -1,10 +1,18 @@
 //! Links the static libraries of libraries.txt, which `rt staticlib` has written to the repository's target folder, or those in
-//! the folder that the variable LIBRARIES names.
+//! the folder that the variable LIBRARIES names; and compiles the rule in C and links it.
 
 use std::env;
 use std::path::PathBuf;
+use std::process::Command;
+
+const WARNINGS: [&str; 4] = ["-Wall", "-Wextra", "-Wpedantic", "-Werror"];
 
 fn main() {
+    link_the_libraries();
+    link_the_rule_in_c();
+}
+
+fn link_the_libraries() {
     let root = PathBuf::from(env::var("CARGO_MANIFEST_DIR").unwrap()).join("..");
     let proved = root.join("target").join("staticlib");
     let folder = env::var_os("LIBRARIES").map_or(proved, PathBuf::from);
@@ -23,4 +31,23 @@ fn main() {
         assert!(archive.exists(), "{missing}");
         println!("cargo:rustc-link-lib=static={name}");
     }
+}
+
+fn link_the_rule_in_c() {
+    let folder = PathBuf::from(env::var("OUT_DIR").unwrap());
+    let (object, archive) = (folder.join("rule.o"), folder.join("librule.a"));
+    let mut gcc = Command::new("gcc");
+    gcc.args(["-std=c11", "-O3", "-march=native"])
+        .args(WARNINGS);
+    ran(gcc.args(["-c", "c/rule.c", "-o"]).arg(&object));
+    ran(Command::new("ar").arg("rcs").arg(&archive).arg(&object));
+    println!("cargo:rerun-if-changed=c/rule.c");
+    println!("cargo:rustc-link-search=native={}", folder.display());
+    println!("cargo:rustc-link-lib=static=rule");
+}
+
+fn ran(command: &mut Command) {
+    let status = command.status();
+    let status = status.unwrap_or_else(|error| panic!("{command:?}: {error}"));
+    assert!(status.success(), "{command:?}: {status}");
 }

@@ -1,7 +1,8 @@
-//! An independent implementation of what the calculator works out, and the calculator's own libraries beside it.
-//! The tests compare the two. Nothing here is generated from the Rattle sources or shares code with them.
+//! Independent implementations of what the calculator works out, and the calculator's own libraries beside them.
+//! The tests compare them. Nothing here is generated from the Rattle sources or shares code with them.
 
 pub mod arithmetic;
+pub mod bitsets;
 pub mod calls;
 pub mod citations;
 pub mod desk;
@@ -15,3 +16,4 @@ pub mod random;
 pub mod repository;
 pub mod rule;
 pub mod states;
+pub mod versions;

@@ -61,7 +61,9 @@ enum Step {
     Split(Link, Network, Network),
 }
 
+/// The fields stand in memory as those of the figure in `c/rule.c`.
 #[derive(Clone, Copy, Debug, PartialEq, Eq)]
+#[repr(C)]
 pub struct Figure {
     pub low: u32,
     pub high: u32,

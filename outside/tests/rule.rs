@@ -1,6 +1,7 @@
-//! The independent version of the rule and the library against every figure that the request prints.
+//! The independent versions of the rule and the library against every figure that the request prints.
 
 use outside::arithmetic::{split, Side, S};
+use outside::bitsets;
 use outside::calls::{answer_bytes, held, read, Call};
 use outside::desk::hold;
 use outside::plans::{Plan, LENGTH};
@@ -17,10 +18,13 @@ fn listed() -> Plan {
     Plan::new(2, &[(0, 1, 900_000_000), (0, 1, 800_000_000)])
 }
 
-/// The figure of a plan, to which the library is held.
+/// The figure of a plan, to which the library and the rule in C are held.
 fn worked(plan: &Plan, limit: u64) -> Answer {
+    let in_c = bitsets::figure(plan, limit);
     let plan = &plan.bytes();
-    held(&Call::Figure { plan, limit }, 24).unwrap().unwrap()
+    let answer = held(&Call::Figure { plan, limit }, 24).unwrap().unwrap();
+    assert_eq!(Answer::from(in_c), answer);
+    answer
 }
 
 fn sample() -> Plan {

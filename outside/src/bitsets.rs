@@ -1,0 +1,29 @@
+//! The rule in C with bit sets: `c/rule.c`, which the build compiles.
+
+use crate::calls::read;
+use crate::plans::{Link, Plan};
+use crate::rule::Figure;
+
+mod c {
+    use crate::rule::Figure;
+
+    extern "C" {
+        pub fn rule_figure(
+            n: u32,
+            m: u32,
+            ends: *const u8,
+            values: *const u32,
+            limit: u64,
+        ) -> Figure;
+    }
+}
+
+/// The figure of a plan that is accepted.
+pub fn figure(plan: &Plan, limit: u64) -> Figure {
+    assert_eq!(read(&plan.bytes()).as_ref(), Ok(plan));
+    let (n, m) = (plan.nodes.into(), plan.links.len() as u32);
+    let ends: Vec<u8> = plan.links.iter().flat_map(|link| link.ends).collect();
+    let values: Vec<u32> = plan.links.iter().map(Link::units).collect();
+    // SAFETY: the plan is accepted, and there are 2 * m ends and m values.
+    unsafe { c::rule_figure(n, m, ends.as_ptr(), values.as_ptr(), limit) }
+}

@@ -1,0 +1,32 @@
+//! The versions of the rule: the bytes of an accepted plan's figure by each.
+
+use crate::bitsets;
+use crate::calls::{answer_bytes, Call, ANSWER};
+use crate::desk;
+use crate::plans::Plan;
+use crate::rule::{self, Figure, Network};
+
+pub type Version = fn(&Plan, u64) -> [u8; ANSWER];
+
+/// The calculator's library, through its figure call.
+pub fn library(plan: &Plan, limit: u64) -> [u8; ANSWER] {
+    let plan = &plan.bytes();
+    let mut answer = [0; ANSWER];
+    let call = Call::Figure { plan, limit };
+    assert_eq!(desk::made(&call, &mut answer), 0);
+    answer
+}
+
+/// The rule in C with bit sets.
+pub fn in_c(plan: &Plan, limit: u64) -> [u8; ANSWER] {
+    bytes(bitsets::figure(plan, limit))
+}
+
+/// The rule on lists that are handed on by value.
+pub fn straightforward(plan: &Plan, limit: u64) -> [u8; ANSWER] {
+    bytes(rule::figure(Network::from(plan), limit))
+}
+
+fn bytes(figure: Figure) -> [u8; ANSWER] {
+    answer_bytes(&figure.into()).try_into().unwrap()
+}
