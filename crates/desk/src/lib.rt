@@ -57,7 +57,7 @@ pub extern "C" fn importance(plan: &[u8], place: u64, limit: u64, answer: &mut [
     if let CallVerdict::Refused(_) = w {
         return refusals::call_returned(w);
     }
-    let gain = factoring::importance(loading::network_of(plan), place as usize, limit);
+    let gain = comparisons::importance(loading::network_of(plan), place as usize, limit);
     put_answer(answer, gain.low, gain.high, gain.steps, gain.finished);
     0
 }
@@ -75,7 +75,7 @@ pub extern "C" fn difference(first: &[u8], second: &[u8], limit: u64, answer: &m
     if let CallVerdict::Refused(_) = b {
         return refusals::call_returned(b);
     }
-    let d = factoring::difference(
+    let d = comparisons::difference(
         loading::network_of(first),
         loading::network_of(second),
         limit,

@@ -25,7 +25,7 @@ use Rattle.search.specs.declared.Found.the-variants.{At, Nothing}
 use Rattle.search.specs.Searches.{placesIn, endsIn, found, loops}
 use Rattle.search.proofs.Sets.{has-place, mem-has}
 use Rattle.search.proofs.Answers.{first, hit, missed}
-use Rattle.tallies.specs.Tallies.{Written}
+use Rattle.parts.specs.Tallies.{Written}
 use Rattle.network.specs.declared.Network.{Network}
 use Rattle.network.specs.Places.{networkOf, linksOf, nodesOf, indexOf, linkOf, rowOf, Used, Invariant, Sized, ranked, Fitting}
 use Rattle.network.proofs.Picks.{index-within, link-at}

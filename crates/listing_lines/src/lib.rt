@@ -46,7 +46,7 @@ pub fn put_link(text: &mut [u8], at: usize, plan: &[u8], i: usize) -> usize
     ensures { λ r. ⌜ Puts (now (text .entry)) at (lineOf (now (plan .entry)) i) (now (text .exit)) r ⌝ }
 {
     let e = plan::link_at(plan, i);
-    let f = factoring::importance(loading::network_of(plan), i, IMPORTANCE_LIMIT);
+    let f = comparisons::importance(loading::network_of(plan), i, IMPORTANCE_LIMIT);
     lines::put_line(
         text,
         at,

@@ -17,7 +17,7 @@ use Rattle.search.specs.declared.Pair.the-variants.{Both, Neither}
 use Rattle.search.specs.Searches.{placesIn, loops, beside, pairIn}
 use Rattle.search.proofs.Sets.{has-place, mem-has}
 use Rattle.search.proofs.Answers.{first, pair-members}
-use Rattle.tallies.specs.Tallies.{Written}
+use Rattle.parts.specs.Tallies.{Written}
 use Rattle.network.specs.declared.Network.{Network}
 use Rattle.network.specs.Places.{rows, networkOf, linksOf, nodesOf, indexOf, Used, Invariant, Sized}
 use Rattle.network.proofs.Picks.{all-even, row, rowAt, rows-values, joined-links}

@@ -19,8 +19,8 @@ use Rattle.reliability.proofs.Unrolled.{below-scaled}
 use Rattle.bits.specs.Members.{members}
 use Rattle.search.specs.Searches.{touching, Incidence}
 use Rattle.search.proofs.Sets.{has, has-none, has-without, has-below, mem-has}
-use Rattle.tallies.specs.Tallies.{Written}
-use Rattle.tallies.proofs.Laws.{counted, taken, added, turned}
+use Rattle.parts.specs.Tallies.{Written}
+use Rattle.parts.proofs.Laws.{counted, taken, added, turned}
 use Rattle.network.specs.declared.Network.{Network}
 use Rattle.network.specs.Places.{networkOf, nodesOf, indexOf, linkOf, Used, Invariant, Built, ranked, Fitting, Sized}
 use Rattle.network.proofs.Picks.{rowAt, allRows, link-at, index-within, deleted-links, built-free}

@@ -11,8 +11,8 @@ use Rattle.reliability.specs.declared.Link.{Link}
 use Rattle.reliability.specs.Networks.{Network as Graph}
 use Rattle.reliability.specs.Rule.{isLoop, without, rename, renamed, deleteAt, deleted, contracted}
 use Rattle.search.specs.Searches.{pick, marked, touching, Incidence}
-use Rattle.tallies.specs.Tallies.{Written, Merged, changedAt}
-use Rattle.tallies.proofs.Laws.{merged, renamed-touching}
+use Rattle.parts.specs.Tallies.{Written, Merged, changedAt}
+use Rattle.parts.proofs.Laws.{merged, renamed-touching}
 use Rattle.network.specs.declared.Network.{Network}
 use Rattle.network.specs.Places.{rows, networkOf, linksOf, nodesOf, indexOf, linkOf, Used, Invariant, Sized}
 use Rattle.network.proofs.Picks.{Even, none, more, all-even, row, rowAt, allRows, link-at, deleted-links}

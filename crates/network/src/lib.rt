@@ -5,15 +5,12 @@ use reliability::Step;
 use rounding::Direction;
 ghost use mathlib.Core.Path.{_≡_};
 ghost use mathlib.Core.List.{_++_, _∷_, []};
-ghost use mathlib.Core.Bool.{cond, false};
-ghost use lib.Dec.{eqb};
-ghost use lib.ListN.{length, getD, set};
-ghost use Prim.Native.Nat.{_+_, _≤_, _<_, min, max};
-ghost use Rattle.rounding.specs.Rounding.{S, parallel};
+ghost use mathlib.Core.Bool.{false};
+ghost use Prim.Native.Nat.{_+_, _≤_, _<_};
 ghost use Rattle.reliability.specs.Networks.{Proper};
-ghost use Rattle.reliability.specs.Rule.{isLoop, without, deleted, removed, joined, inSeries, contracted};
+ghost use Rattle.reliability.specs.Rule.{isLoop, deleted, removed, joined, inSeries, contracted};
 ghost use Rattle.reliability.specs.Simple.{Plain, unpaired};
-ghost use Rattle.search.specs.Searches.{from, nodesIn};
+ghost use Rattle.search.specs.Searches.{from};
 ghost use Rattle.network.specs.Places.{networkOf, linksOf, nodesOf, indexOf, linkOf, Used, Invariant, Built, Fitting, rowOf, assembled};
 
 pub struct Network {
@@ -24,44 +21,6 @@ pub struct Network {
     pub a: [u8; 64],
     pub b: [u8; 64],
     pub nodes: u32,
-}
-
-// The lower of two ends.
-fn lower(x: u8, y: u8) -> u8
-    ensures { λ r. ⌜ r ≡ min x y ⌝ }
-{
-    if x < y { x } else { y }
-}
-
-// The higher of two ends.
-fn higher(x: u8, y: u8) -> u8
-    ensures { λ r. ⌜ r ≡ max x y ⌝ }
-{
-    if x < y { y } else { x }
-}
-
-// The end of a link a to b that is not v.
-fn across(v: u8, a: u8, b: u8) -> u8
-    ensures { λ r. ⌜ r ≡ cond (eqb a v) b a ⌝ }
-{
-    if a == v { b } else { a }
-}
-
-// The nodes without v.
-fn without_node(nodes: u32, v: usize) -> u32
-    requires { ⌜ v < 64 ⌝ }
-    ensures { λ r. ⌜ nodesIn r ≡ without v (nodesIn nodes) ⌝ }
-{
-    bits::without(nodes as u64, v) as u32
-}
-
-// Place i gets the value of links i and j side by side.
-fn join(values: &mut [u32; 64], d: Direction, i: usize, j: usize)
-    requires { ⌜ (length (now values) ≡ 64) × (i < 64) × (j < 64) × (getD (now values) i 0 ≤ S) × (getD (now values) j 0 ≤ S) ⌝ }
-    ensures { λ _. ⌜ now (values .exit) ≡ set (now (values .entry)) i (parallel d (getD (now (values .entry)) i 0) (getD (now (values .entry)) j 0)) ⌝ }
-{
-    let both = rounding::parallel(d, values[i], values[j]);
-    values[i] = both;
 }
 
 // The link at place i, from the parts of a network.
@@ -132,8 +91,8 @@ impl Network {
         self.b[k] = l.b;
         self.low[k] = l.low;
         self.high[k] = l.high;
-        tallies::put_in(&mut self.at, l.a, k);
-        tallies::put_in(&mut self.at, l.b, k);
+        parts::put_in(&mut self.at, l.a, k);
+        parts::put_in(&mut self.at, l.b, k);
         let alive = bits::with(self.alive, k);
         self.alive = alive;
         self
@@ -159,8 +118,8 @@ impl Network {
     {
         let x = self.a[i];
         let y = self.b[i];
-        tallies::take_out(&mut self.at, x, i);
-        tallies::take_out(&mut self.at, y, i);
+        parts::take_out(&mut self.at, x, i);
+        parts::take_out(&mut self.at, y, i);
         let others = bits::without(self.alive, i);
         self.alive = others;
         self
@@ -177,12 +136,12 @@ impl Network {
             &self.a,
             &self.b,
         ) {
-            join(&mut self.low, Direction::Down, i, j);
-            join(&mut self.high, Direction::Up, i, j);
+            parts::join(&mut self.low, Direction::Down, i, j);
+            parts::join(&mut self.high, Direction::Up, i, j);
             let x = self.a[j];
             let y = self.b[j];
-            tallies::take_out(&mut self.at, x, j);
-            tallies::take_out(&mut self.at, y, j);
+            parts::take_out(&mut self.at, x, j);
+            parts::take_out(&mut self.at, y, j);
             let others = bits::without(self.alive, j);
             self.alive = others;
         }
@@ -196,9 +155,9 @@ impl Network {
     {
         let x = self.a[i];
         let y = self.b[i];
-        tallies::take_out(&mut self.at, x, i);
-        tallies::take_out(&mut self.at, y, i);
-        let others = without_node(self.nodes, v);
+        parts::take_out(&mut self.at, x, i);
+        parts::take_out(&mut self.at, y, i);
+        let others = parts::without_node(self.nodes, v);
         let alive = bits::without(self.alive, i);
         self.nodes = others;
         self.alive = alive;
@@ -212,19 +171,19 @@ impl Network {
     {
         let low = rounding::series(Direction::Down, self.low[i], self.low[j]);
         let high = rounding::series(Direction::Up, self.high[i], self.high[j]);
-        let a = across(v as u8, self.a[i], self.b[i]);
-        let b = across(v as u8, self.a[j], self.b[j]);
+        let a = parts::across(v as u8, self.a[i], self.b[i]);
+        let b = parts::across(v as u8, self.a[j], self.b[j]);
         let x = self.a[j];
         let y = self.b[j];
         self.a[i] = a;
         self.b[i] = b;
         self.low[i] = low;
         self.high[i] = high;
-        tallies::take_out(&mut self.at, x, j);
-        tallies::take_out(&mut self.at, y, j);
-        tallies::take_out(&mut self.at, v as u8, i);
-        tallies::put_in(&mut self.at, b, i);
-        let nodes = without_node(self.nodes, v);
+        parts::take_out(&mut self.at, x, j);
+        parts::take_out(&mut self.at, y, j);
+        parts::take_out(&mut self.at, v as u8, i);
+        parts::put_in(&mut self.at, b, i);
+        let nodes = parts::without_node(self.nodes, v);
         let alive = bits::without(self.alive, j);
         self.nodes = nodes;
         self.alive = alive;
@@ -238,14 +197,14 @@ impl Network {
     {
         let x = self.a[i];
         let y = self.b[i];
-        let keep = lower(x, y);
-        let gone = higher(x, y);
-        tallies::take_out(&mut self.at, x, i);
-        tallies::take_out(&mut self.at, y, i);
-        let moved = tallies::merge(&mut self.at, keep, gone);
-        tallies::rename(&mut self.a, moved, keep, gone);
-        tallies::rename(&mut self.b, moved, keep, gone);
-        let nodes = without_node(self.nodes, gone as usize);
+        let keep = parts::lower(x, y);
+        let gone = parts::higher(x, y);
+        parts::take_out(&mut self.at, x, i);
+        parts::take_out(&mut self.at, y, i);
+        let moved = parts::merge(&mut self.at, keep, gone);
+        parts::rename(&mut self.a, moved, keep, gone);
+        parts::rename(&mut self.b, moved, keep, gone);
+        let nodes = parts::without_node(self.nodes, gone as usize);
         let alive = bits::without(self.alive, i);
         self.nodes = nodes;
         self.alive = alive;

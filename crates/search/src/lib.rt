@@ -2,7 +2,6 @@
 ghost use mathlib.Core.Path.{_≡_};
 ghost use Prim.Native.Nat.{_^_, _<_};
 ghost use lib.Dec.{eqb, leb};
-ghost use lib.ListN.{length};
 ghost use Rattle.bits.specs.Members.{members, howMany};
 ghost use Rattle.search.specs.Searches.{placesIn, Incidence, Bounded, found, loops, beside, pairIn, withLinks};
 
@@ -29,26 +28,6 @@ pub fn first_loop<'r>(alive: u64, a: &'r [u8; 64], b: &'r [u8; 64]) -> Found
         t = bits::without_lowest(t);
     }
     Found::Nothing
-}
-
-// The places of the links at each node.
-pub fn incidence<'r>(alive: u64, a: &'r [u8; 64], b: &'r [u8; 64]) -> [u64; 32]
-    requires { ⌜ (length (now a) ≡ 64) × (length (now b) ≡ 64) × Bounded alive (now a) (now b) ⌝ }
-    ensures { λ r. ⌜ Incidence r alive (now (a .entry)) (now (b .entry)) ⌝ }
-{
-    let mut at = [0u64; 32];
-    let mut t = alive;
-    while t != 0 {
-        let k = bits::lowest(t);
-        t = bits::without_lowest(t);
-        let x = a[k] as usize;
-        let y = b[k] as usize;
-        let sx = bits::with(at[x], k);
-        at[x] = sx;
-        let sy = bits::with(at[y], k);
-        at[y] = sy;
-    }
-    at
 }
 
 // The first link with a partner, and its earliest partner.

@@ -4,7 +4,7 @@ use mathlib.Core.List.{List, _++_}
 use lib.ListN.{drop}
 use lib.Seq.{drop-drop}
 use Rattle.words.specs.Words.{le4, with32}
-use Rattle.factoring.proofs.Marks.{as-byte}
+use Rattle.figures.proofs.Marks.{as-byte}
 use borrow.Author.Needs.{needs}
 use Rattle.desk.proofs.put_answer.Statement.{statement}
 use Rattle.desk.proofs.put_answer.Tie as tie

@@ -24,12 +24,12 @@ use borrow.Author.Needs.{needs}
 use borrow.Fn.Kinds.{In}
 use borrow.Fn.PlainCycle.{Measures, is, falls, and}
 use Rattle.bits.proofs.without.Reads as without-reads
-use Rattle.factoring.proofs.blend.Reads as blend-reads
+use Rattle.figures.proofs.blend.Reads as blend-reads
 use Rattle.factoring.proofs.run.Reads as run
-use Rattle.factoring.proofs.settled.Reads as settled-reads
-use Rattle.factoring.proofs.times.Reads as times-reads
-use Rattle.factoring.proofs.times_factor.Reads as times-factor-reads
-use Rattle.factoring.proofs.unfinished.Reads as unfinished-reads
+use Rattle.figures.proofs.settled.Reads as settled-reads
+use Rattle.figures.proofs.times.Reads as times-reads
+use Rattle.figures.proofs.times_factor.Reads as times-factor-reads
+use Rattle.figures.proofs.unfinished.Reads as unfinished-reads
 use Rattle.network.proofs.Network.contracted.Reads as contracted-reads
 use Rattle.network.proofs.Network.end.Reads as end-reads
 use Rattle.network.proofs.Network.parallel.Reads as parallel-reads
@@ -38,7 +38,7 @@ use Rattle.network.proofs.assembled.Reads as assembled-reads
 use Rattle.network.proofs.link_at.Reads as link-at-reads
 use Rattle.pieces.proofs.count.Reads as count-reads
 use Rattle.steps.proofs.step.Reads as step-reads
-use Rattle.tallies.proofs.take_out.Reads as take-out-reads
+use Rattle.parts.proofs.take_out.Reads as take-out-reads
 use Rattle.factoring.proofs.run.Kinds as run-kinds
 use Rattle.factoring.proofs.+run.Lts-run as run-lts
 use Rattle.factoring.proofs.+run.{statement}

@@ -13,7 +13,7 @@ use borrow.Author.Needs.{needs}
 use borrow.Fn.Kinds.{In}
 use borrow.Fn.PlainCycle.{Measures, is, falls, and}
 use Rattle.factoring.proofs.run.Reads as run-reads
-use Rattle.factoring.proofs.settled.Reads as settled-reads
+use Rattle.figures.proofs.settled.Reads as settled-reads
 use Rattle.factoring.proofs.work.Reads as work
 use Rattle.network.proofs.Network.deleted.Reads as deleted-reads
 use Rattle.network.proofs.Network.parallel.Reads as parallel-reads

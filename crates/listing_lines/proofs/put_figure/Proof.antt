@@ -4,7 +4,7 @@ use mathlib.Core.List.{List, [], _∷_}
 use mir.Val.{boolByte}
 use lib.ListN.{length}
 use Rattle.reliability.specs.declared.Figure.{Figure}
-use Rattle.factoring.proofs.Marks.{as-byte}
+use Rattle.figures.proofs.Marks.{as-byte}
 use Rattle.lines.specs.Lines.{Puts, text, filled}
 use Rattle.listing_lines.specs.Entries.{figureLine}
 use borrow.Author.Needs.{needs}

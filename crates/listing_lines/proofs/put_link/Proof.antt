@@ -18,7 +18,7 @@ use Rattle.listing_lines.proofs.put_link.Statement.{statement}
 use Rattle.listing_lines.proofs.put_link.Tie as tie
 use Rattle.listing_lines.proofs.put_link.Reads as reads
 use Rattle.listing_lines.proofs.put_link.Lts as lts
-use Rattle.factoring.proofs.importance.Reads as importance-reads
+use Rattle.comparisons.proofs.importance.Reads as importance-reads
 use Rattle.lines.proofs.put_line.Reads as put-line-reads
 use Rattle.plan.proofs.link_at.Reads as link-at-reads
 use Rattle.loading.proofs.network_of.Reads as network-of-reads

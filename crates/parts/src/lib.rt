@@ -1,0 +1,106 @@
+// The parts of a network by value, as it changes: numbers and arrays alone.
+use rounding::Direction;
+ghost use mathlib.Core.Path.{_≡_};
+ghost use mathlib.Core.Bool.{true, false, cond};
+ghost use Prim.Native.Nat.{_≤_, _<_, min, max};
+ghost use lib.Dec.{eqb};
+ghost use lib.ListN.{length, getD, set};
+ghost use Rattle.bits.specs.Members.{members};
+ghost use Rattle.rounding.specs.Rounding.{S, parallel};
+ghost use Rattle.reliability.specs.Rule.{rename, without};
+ghost use Rattle.search.specs.Searches.{nodesIn};
+ghost use Rattle.parts.specs.Tallies.{Written, Merged, changedAt};
+
+// Link i is not at node x any more.
+pub fn take_out(at: &mut [u64; 32], x: u8, i: usize)
+    requires { ⌜ (length (now at) ≡ 32) × (x < 32) × (i < 64) ⌝ }
+    ensures { λ _. ⌜ Written false x i (now (at .entry)) (now (at .exit)) ⌝ }
+{
+    let v = x as usize;
+    let s = bits::without(at[v], i);
+    at[v] = s;
+}
+
+// Link i is at node x.
+pub fn put_in(at: &mut [u64; 32], x: u8, i: usize)
+    requires { ⌜ (length (now at) ≡ 32) × (x < 32) × (i < 64) ⌝ }
+    ensures { λ _. ⌜ Written true x i (now (at .entry)) (now (at .exit)) ⌝ }
+{
+    let v = x as usize;
+    let s = bits::with(at[v], i);
+    at[v] = s;
+}
+
+// The links at node gone are at keep. Answers which they were.
+pub fn merge(at: &mut [u64; 32], keep: u8, gone: u8) -> u64
+    requires { ⌜ (length (now at) ≡ 32) × (keep < 32) × (gone < 32) ⌝ }
+    ensures { λ r. ⌜ members r ≡ members (getD (now (at .entry)) gone 0) ⌝ }
+    ensures { λ _. ⌜ Merged keep gone (now (at .entry)) (now (at .exit)) ⌝ }
+{
+    let k = keep as usize;
+    let g = gone as usize;
+    let moved = at[g];
+    let s = bits::union(at[k], moved);
+    at[k] = s;
+    at[g] = 0;
+    moved
+}
+
+// x, or keep where x is gone.
+fn renamed(x: u8, keep: u8, gone: u8) -> u8
+    ensures { λ r. ⌜ r ≡ rename keep gone x ⌝ }
+{
+    if x == gone { keep } else { x }
+}
+
+// At the places of a set, every end gone becomes keep.
+pub fn rename(ends: &mut [u8; 64], places: u64, keep: u8, gone: u8)
+    requires { ⌜ length (now ends) ≡ 64 ⌝ }
+    ensures { λ _. ⌜ now (ends .exit) ≡ changedAt (rename keep gone) (members places) (now (ends .entry)) ⌝ }
+{
+    let mut t = places;
+    while t != 0 {
+        let k = bits::lowest(t);
+        let x = renamed(ends[k], keep, gone);
+        ends[k] = x;
+        t = bits::without_lowest(t);
+    }
+}
+
+// The lower of two ends.
+pub fn lower(x: u8, y: u8) -> u8
+    ensures { λ r. ⌜ r ≡ min x y ⌝ }
+{
+    if x < y { x } else { y }
+}
+
+// The higher of two ends.
+pub fn higher(x: u8, y: u8) -> u8
+    ensures { λ r. ⌜ r ≡ max x y ⌝ }
+{
+    if x < y { y } else { x }
+}
+
+// The end of a link a to b that is not v.
+pub fn across(v: u8, a: u8, b: u8) -> u8
+    ensures { λ r. ⌜ r ≡ cond (eqb a v) b a ⌝ }
+{
+    if a == v { b } else { a }
+}
+
+// The nodes without v.
+pub fn without_node(nodes: u32, v: usize) -> u32
+    requires { ⌜ v < 64 ⌝ }
+    ensures { λ r. ⌜ nodesIn r ≡ without v (nodesIn nodes) ⌝ }
+{
+    bits::without(nodes as u64, v) as u32
+}
+
+// Place i gets the value of links i and j side by side.
+pub fn join(values: &mut [u32; 64], d: Direction, i: usize, j: usize)
+    requires { ⌜ (length (now values) ≡ 64) × (i < 64) × (j < 64) × (getD (now values) i 0 ≤ S) × (getD (now values) j 0 ≤ S) ⌝ }
+    ensures { λ _. ⌜ now (values .exit) ≡ set (now (values .entry)) i (parallel d (getD (now (values .entry)) i 0) (getD (now (values .entry)) j 0)) ⌝ }
+{
+    let both = rounding::parallel(d, values[i], values[j]);
+    values[i] = both;
+}
