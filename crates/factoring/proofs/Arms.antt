@@ -10,21 +10,23 @@ use lib.ListN.{length, getD, set}
 use borrow.Author.Tests.{le-leb, lt-leb}
 use Rattle.rounding.specs.Rounding.{S}
 use Rattle.rounding.specs.declared.Direction.the-variants.{Down, Up}
-use Rattle.bits.specs.Members.{members}
+use Rattle.bits.specs.Members.{members, howMany}
 use Rattle.reliability.specs.declared.Link.{Link}
 use Rattle.reliability.specs.declared.Figure.{Figure}
 use Rattle.reliability.specs.declared.Step.{Step}
-use Rattle.reliability.specs.declared.Step.the-variants.{End, Series, Split}
+use Rattle.reliability.specs.declared.Step.the-variants.{OneNode, End, Series, Split}
 use Rattle.reliability.specs.Networks.{Network as Graph, Valid, ends, connected, pieces, piecesOf}
-use Rattle.reliability.specs.Rule.{isLoop, firstAt, next, leaves, removed, deleted, joined, inSeries, contracted, bounded, blend, figure}
+use Rattle.reliability.specs.Rule.{isLoop, firstAt, lowest, endOf, seriesOf, chosen, when, _otherwise_, next, leaves, removed, deleted, joined, inSeries, contracted, bounded, blend, figure}
 use Rattle.reliability.specs.Simple.{Loopless, Plain, Simple, unpaired}
 use Rattle.reliability.proofs.Validity.{proper-at, deleted-valid}
-use Rattle.reliability.proofs.Unrolled.{Below, below-scaled, below-sound, below-broken, figure-range, figure-steps}
-use Rattle.reliability.proofs.Simple.{connected-pieces-few, apart-figure, unpaired-simple, unpaired-figure, unpaired-fewer, end-simple, series-plain, contracted-plain, deleted-simple}
+use Rattle.reliability.proofs.Unrolled.{Below, figure-settled, below-scaled, below-sound, below-broken, figure-range, figure-steps}
+use Rattle.reliability.proofs.Simple.{simple-next, connected-pieces-few, apart-figure, unpaired-simple, unpaired-figure, unpaired-fewer, end-simple, series-plain, contracted-plain, deleted-simple}
 use Rattle.search.specs.declared.Found.the-variants.{At, Nothing}
 use Rattle.search.specs.Searches.{placesIn, endsIn, found, loops}
 use Rattle.search.proofs.Sets.{has-place, mem-has}
+use Rattle.search.proofs.Marks.{length-places}
 use Rattle.search.proofs.Answers.{first, hit, missed}
+use Rattle.parts.proofs.Nodes.{nodes-cleared}
 use Rattle.parts.specs.Tallies.{Written}
 use Rattle.network.specs.declared.Network.{Network}
 use Rattle.network.specs.Places.{networkOf, linksOf, nodesOf, indexOf, linkOf, rowOf, Used, Invariant, Sized, ranked, Fitting}
@@ -137,6 +139,17 @@ module _ (n : Network) (work : Workable n) where
     pub end-work : (r : Network) → networkOf r ≡ removed v (deleted (indexOf n i) g) → Sized r → Invariant r → Workable r
     unfolding ranked
     end-work r e sized holds = record { sized = sized; holds = holds; simple = subst Simple (sym e) (end-simple g (work .simple) v (indexOf n i) (known n (work .holds) (End v i) f)) }
+
+    -- one node is left
+    pub last-end : (others : ℕ) → members others ≡ set (members (n .nodes)) v false → leb (howMany (members others)) 1 ≡ true
+        → (l : ℕ) → bounded (λ d. S) 0 true ≡ figure (removed v (deleted (indexOf n i) g)) l
+    unfolding leaves ranked
+    last-end others cleared few l =
+        let h = removed v (deleted (indexOf n i) g) in
+        let simple = end-simple g (work .simple) v (indexOf n i) (known n (work .holds) (End v i) f) in
+        let one : leb (length (h .nodes)) 1 ≡ true = ap (λ (k : ℕ). leb k 1) (ap length (sym (nodes-cleared others (n .nodes) v cleared)) ∙ length-places others) ∙ few in
+        let fits : next h ≡ OneNode = simple-next h simple (chosen h) ∙ ap (λ (b : Bool). when b OneNode otherwise lowest endOf (h .links) (h .nodes) otherwise lowest seriesOf (h .links) (h .nodes) otherwise Split (chosen h)) one in
+        figure-settled h (simple .plain .valid) l S (ap (leaves h) fits)
 
   module _ (v i j : ℕ) (f : Fitting n (Series v i j)) where
     pub series-left : Plain (removed v (joined (indexOf n i) (indexOf n j) (inSeries v (linkOf n i) (linkOf n j)) g))

@@ -28,6 +28,9 @@ fn run<'r>(
         Next::OneNode => figures::settled(1_000_000_000),
         Next::End(v, i) => {
             let e = network::link_at(a, b, low, high, i);
+            if search::at_most_one(bits::without(nodes as u64, v)) {
+                return figures::times(e.low, e.high, figures::settled(1_000_000_000));
+            }
             let r = network::assembled(alive, nodes, at, a, b, low, high).end(v, i);
             let f = run(r.alive, r.nodes, &r.at, &r.a, &r.b, &r.low, &r.high, limit);
             figures::times(e.low, e.high, f)

@@ -19,7 +19,7 @@ use Rattle.network.specs.declared.Network.{Network}
 use Rattle.search.specs.declared.Pair.{Pair}
 use Rattle.search.specs.declared.Pair.the-variants.{Both, Neither}
 use Rattle.search.specs.Searches.{pick, placesIn, touching, Incidence, filter, loops, beside, pairIn, withLinks}
-use Rattle.network.specs.Places.{rank, linksOf, nodesOf, indexOf, Sized}
+use Rattle.network.specs.Places.{rank, linksOf, nodesOf, indexOf, Sized, Invariant, tally}
 use Rattle.search.proofs.Sets.{has-below, mem-has, at-node}
 use Rattle.network.proofs.Picks.{rows-at, allRows, rowAt, all-even, length-all}
 use Rattle.search.proofs.Marks.{indices, places-listed, length-places, filter-suc, filter-indices, same-test}
@@ -209,3 +209,9 @@ module _ (n : Network) (sized : Sized n) where
     pub series-rule : lowest seriesOf (linksOf n) (nodesOf n)
         ≡ Option·map (λ v. let is = map (indexOf n) (placesIn (getD at v 0)) in Series v (getD is 0 0) (getD is 1 0)) (first (withLinks 2 at (n .nodes)))
     series-rule = lowest-rule seriesOf 2 (λ v is. Series v (getD is 0 0) (getD is 1 0)) series-list
+
+-- a node's tally is the number of links at it, counted anew
+pub tally-counted : (n : Network) → Sized n → Invariant n → (v : ℕ) → v < 32 → tally n v ≡ length (places (touches v) (linksOf n))
+tally-counted n sized holds v below =
+    let s = getD (n .at) v 0 in
+    sym (ap length (node-places n sized (n .at) (holds .tallies) v below) ∙ length-map (placesIn s) (indexOf n) ∙ length-places s)

@@ -19,7 +19,7 @@ use Rattle.network.proofs.Kept.{known, ends-below}
 use Rattle.steps.specs.declared.Next.{Next}
 use Rattle.steps.specs.declared.Next.the-variants.{OneNode as One, End as Ended, Series as InSeries, Split as Splitting}
 use Rattle.steps.specs.Simple.{Workable, stepOf}
-use Rattle.factoring.proofs.Arms.{Within, sized-of, moved-fits, link-within, figure-within, steps-within, pair-eq, blended, fewer, unpaired-work, unpaired-same, unpaired-less, rule, link-is, end-below, end-work, series-left, series-below, sound-left, sound-below, broken-below, broken-is, broken-sized, broken-apart, broken-work}
+use Rattle.factoring.proofs.Arms.{Within, sized-of, moved-fits, link-within, figure-within, steps-within, pair-eq, blended, fewer, unpaired-work, unpaired-same, unpaired-less, rule, link-is, end-below, last-end, end-work, series-left, series-below, sound-left, sound-below, broken-below, broken-is, broken-sized, broken-apart, broken-work}
 use borrow.Author.Needs.{needs}
 use borrow.Fn.Kinds.{In}
 use borrow.Fn.PlainCycle.{Measures, is, falls, and}
@@ -37,6 +37,7 @@ use Rattle.network.proofs.Network.series.Reads as series-reads
 use Rattle.network.proofs.assembled.Reads as assembled-reads
 use Rattle.network.proofs.link_at.Reads as link-at-reads
 use Rattle.pieces.proofs.count.Reads as count-reads
+use Rattle.search.proofs.at_most_one.Reads as at-most-one-reads
 use Rattle.steps.proofs.step.Reads as step-reads
 use Rattle.parts.proofs.take_out.Reads as take-out-reads
 use Rattle.factoring.proofs.run.Kinds as run-kinds
@@ -61,14 +62,18 @@ claims t = (
   settled-reads.Learnt,
   link-at-reads.Asked,
   link-at-reads.Learnt,
+  without-reads.Asked,
+  without-reads.Learnt,
+  at-most-one-reads.Asked,
+  at-most-one-reads.Learnt,
+  times-reads.Asked,
+  times-reads.Learnt,
   assembled-reads.Asked,
   assembled-reads.Learnt,
   end-reads.Asked,
   end-reads.Learnt,
   run-below t,
   run.Post,
-  times-reads.Asked,
-  times-reads.Learnt,
   series-reads.Asked,
   series-reads.Learnt,
   parallel-reads.Asked,
@@ -79,8 +84,6 @@ claims t = (
   unfinished-reads.Learnt,
   contracted-reads.Asked,
   contracted-reads.Learnt,
-  without-reads.Asked,
-  without-reads.Learnt,
   take-out-reads.Asked,
   take-out-reads.Learnt,
   count-reads.Asked,
@@ -137,40 +140,73 @@ run-settled-requires t c κs = search needs
 run-enum-known-v : (t : ℕ) → run-lts.Need-enum-known-v (claims t) (run-at t) run.Post
 run-enum-known-v t c = search needs
 
+-- the last node but one
+run-without-requires : (t : ℕ) → run-lts.Need-without-requires (claims t) (run-at t) run.Post
+run-without-requires t c κs = omega (arith, end-fits t (c .before) .placed .0)
+
+run-at-most-one-requires : (t : ℕ) → run-lts.Need-at-most-one-requires (claims t) (run-at t) run.Post
+run-at-most-one-requires t c κs = search needs
+
+run-settled-requires-2 : (t : ℕ) → run-lts.Need-settled-requires-2 (claims t) (run-at t) run.Post
+run-settled-requires-2 t c κs = search needs
+
+abbrev End-read : ℕ → Type 0
+End-read t = run-lts.After-link-at (claims t) (run-at t) run.Post
+
+end-link : (t : ℕ) (a : End-read t) → let k = a .before in a .link-at .result ≡ linkOf (net t (k .before .before .before)) (k .before .v .given .0 .1 .0)
+end-link t a = let k = a .before in let o = k .before .before .before in link-is (net t o) (workable t o) (a .link-at .result) _ (end-fits t k .placed .1) (a .link-at .ensures)
+
+end-within : (t : ℕ) (a : End-read t) → Within (a .link-at .result .low) (a .link-at .result .high)
+end-within t a = let k = a .before in let o = k .before .before .before in link-within (net t o) (workable t o .holds) (workable t o .sized) (a .link-at .result) _ (end-fits t k .placed .1) (end-link t a)
+
+run-times-requires : (t : ℕ) → run-lts.Need-times-requires (claims t) (run-at t) run.Post
+run-times-requires t c κs =
+    let e = end-within t (c .before .before .before .before) in
+    let z = c .settled2 .ensures in
+    (e .0, e .1, omega (arith, ap (λ (g : Figure). g .low) z), omega (arith, ap (λ (g : Figure). g .high) z))
+
+run-returns : (t : ℕ) → run-lts.Need-returns (claims t) (run-at t) run.Post
+unfolding leaves ranked
+run-returns t c =
+    let w = c .before .before .before .before in
+    let k = w .before .before in
+    let o = k .before .before .before in
+    let n = net t o in
+    let m = o .before .args .limit in
+    let one = last-end n (workable t o) _ _ (end-fits t k) (w .without .result) (w .without .ensures) (sym (c .before .before .before .at-most-one .ensures) ∙ c .before .before .if1 .taken) m in
+    c .times .ensures ∙ ap₂ (λ (e : Link) (f : Figure). times (λ d. value d e) f) (end-link t (w .before)) (c .before .settled2 .ensures ∙ one)
+    ∙ figure-scaled (graph t o) (workable t o .holds .valid) m _ _ (rule n (workable t o) (End _ _) (end-fits t k))
+
 run-assembled-requires : (t : ℕ) → run-lts.Need-assembled-requires (claims t) (run-at t) run.Post
 run-assembled-requires t c κs = search needs
 
 run-end-requires : (t : ℕ) → run-lts.Need-end-requires (claims t) (run-at t) run.Post
 run-end-requires t c κs =
-    let o = c .before .before .before .before .before in
+    let o = c .before .before .before .before .before .before .before .before in
     let e = c .assembled .ensures in
-    (put-together t o e, moved-fits (sym e) (end-fits t (c .before .before)))
+    (put-together t o e, moved-fits (sym e) (end-fits t (c .before .before .before .before .before)))
 
 -- what is left
 abbrev End-left : ℕ → Type 0
 End-left t = run-lts.After-end (claims t) (run-at t) run.Post
 
-end-is : (t : ℕ) (l : End-left t) → let n = net t (l .before .before .before .before .before .before) in let p = l .before .before .before .before .v .given .0 in networkOf (l .end .result) ≡ removed (p .0) (deleted (indexOf n (p .1 .0)) (networkOf n))
-end-is t l = let p = l .before .before .before .before .v .given .0 in l .end .ensures .0 ∙ ap (λ (n : Network). removed (p .0) (deleted (indexOf n (p .1 .0)) (networkOf n))) (l .before .assembled .ensures)
+end-is : (t : ℕ) (l : End-left t) → let n = net t (l .before .before .before .before .before .before .before .before .before) in let p = l .before .before .before .before .before .before .before .v .given .0 in networkOf (l .end .result) ≡ removed (p .0) (deleted (indexOf n (p .1 .0)) (networkOf n))
+end-is t l = let p = l .before .before .before .before .before .before .before .v .given .0 in l .end .ensures .0 ∙ ap (λ (n : Network). removed (p .0) (deleted (indexOf n (p .1 .0)) (networkOf n))) (l .before .assembled .ensures)
 
 run-run-requires : (t : ℕ) → run-lts.Need-run-requires (claims t) (run-at t) run.Post
 run-run-requires t c κs =
     let l = c .before .before .before .before .before .before in
-    let k = l .before .before .before in
-    let o = l .before .before .before .before .before .before in
+    let k = l .before .before .before .before .before .before in
+    let o = l .before .before .before .before .before .before .before .before .before in
     let n = net t o in (
       less t o _ (fewer (networkOf n) (l .end .result) (end-is t l) (end-below n (workable t o) _ _ (end-fits t k))),
       (end-work n (workable t o) _ _ (end-fits t k) (l .end .result) (end-is t l) (sized-of (l .end .lifetimes) (l .end .result) (l .end .ok)) (l .end .ensures .1), omega (arith, o .before .pre .1 .1)),
     )
 
-run-times-requires : (t : ℕ) → run-lts.Need-times-requires (claims t) (run-at t) run.Post
-run-times-requires t c κs =
+run-times-requires-2 : (t : ℕ) → run-lts.Need-times-requires-2 (claims t) (run-at t) run.Post
+run-times-requires-2 t c κs =
     let l = c .before .before .before .before .before .before .before in
-    let k = l .before .before .before in
-    let o = l .before .before .before .before .before .before in
-    let a = l .before .before .link-at in
-    let u = end-fits t k .placed .1 in
-    let e = link-within (net t o) (workable t o .holds) (workable t o .sized) (a .result) _ u (link-is (net t o) (workable t o) (a .result) _ u (a .ensures)) in
+    let e = end-within t (l .before .before .before .before .before) in
     let w = figure-within (l .end .result) (l .end .ensures .1) _ (c .run .result) (c .run .ensures) in
     (e .0, e .1, w .0, w .1)
 
@@ -252,16 +288,16 @@ run-unfinished-requires t c κs = search needs
 
 -- ---- a split
 
-run-returns : (t : ℕ) → run-lts.Need-returns (claims t) (run-at t) run.Post
+run-returns-2 : (t : ℕ) → run-lts.Need-returns-2 (claims t) (run-at t) run.Post
 unfolding leaves ranked
-run-returns t c =
+run-returns-2 t c =
     let o = c .before .before .before .before .before in
     let k = c .before .before .before .i .given in
     let f = fitting t o (Splitting _) (k .1) in
-    c .unfinished .ensures ∙ figure-limit (graph t o) (workable t o .holds .valid) _ _ _ (rule (net t o) (workable t o) (Split _) f) ∙ ap (figure (graph t o)) (sym (c .before .if1 .taken))
+    c .unfinished .ensures ∙ figure-limit (graph t o) (workable t o .holds .valid) _ _ _ (rule (net t o) (workable t o) (Split _) f) ∙ ap (figure (graph t o)) (sym (c .before .if2 .taken))
 
 abbrev Split-known : ℕ → Type 0
-Split-known t = run-lts.Else1 (claims t) (run-at t) run.Post
+Split-known t = run-lts.Else2 (claims t) (run-at t) run.Post
 
 abbrev told : (t : ℕ) → Split-known t → Known t
 told t k = k .before .before .before .before
@@ -311,7 +347,7 @@ run-parallel-requires-2 t c κs =
     (c .contracted .ensures .1, subst Plain (sym (sound-is t c)) (sound-plainly t (chosen-at t c)))
 
 run-sub-run : (t : ℕ) → run-lts.Need-sub-run (claims t) (run-at t) run.Post
-run-sub-run t c = omega (arith, c .before .before .before .before .before .before .before .before .before .before .if1 .left)
+run-sub-run t c = omega (arith, c .before .before .before .before .before .before .before .before .before .before .if2 .left)
 
 run-run-requires-3 : (t : ℕ) → run-lts.Need-run-requires-3 (claims t) (run-at t) run.Post
 run-run-requires-3 t c κs =
@@ -360,8 +396,8 @@ chosen-link t r = let k = split-of t r in link-is (net t (told t k)) (workable t
 chosen-within : (t : ℕ) (r : Worked t) → Within (Chosen t r .low) (Chosen t r .high)
 chosen-within t r = let k = split-of t r in let w = workable t (told t k) in link-within (net t (told t k)) (w .holds) (w .sized) (Chosen t r) (place t k) (split-fits t k .placed) (chosen-link t r)
 
-run-without-requires : (t : ℕ) → run-lts.Need-without-requires (claims t) (run-at t) run.Post
-run-without-requires t c κs = split-fits t (split-of t c) .placed .below
+run-without-requires-2 : (t : ℕ) → run-lts.Need-without-requires-2 (claims t) (run-at t) run.Post
+run-without-requires-2 t c κs = split-fits t (split-of t c) .placed .below
 
 run-take-out-requires : (t : ℕ) → run-lts.Need-take-out-requires (claims t) (run-at t) run.Post
 run-take-out-requires t c κs =
@@ -385,7 +421,7 @@ worked-of t x = x .before .before .before .before .before .before
 abbrev without-it : (t : ℕ) → Taken t → Network
 without-it t x =
     let n = net t (told t (split-of t (worked-of t x))) in
-    record { alive = x .before .before .before .before .before .without .result; at = x .take-out2 .last .0; low = n .low; high = n .high; a = n .a; b = n .b; nodes = n .nodes }
+    record { alive = x .before .before .before .before .before .without2 .result; at = x .take-out2 .last .0; low = n .low; high = n .high; a = n .a; b = n .b; nodes = n .nodes }
 
 abbrev broken : (t : ℕ) → Worked t → Graph
 broken t r = let k = split-of t r in let n = net t (told t k) in deleted (indexOf n (place t k)) (networkOf n)
@@ -394,13 +430,13 @@ without-is : (t : ℕ) (x : Taken t) → (networkOf (without-it t x) ≡ broken 
 without-is t x =
     let r = worked-of t x in
     let k = split-of t r in
-    broken-is (net t (told t k)) (workable t (told t k)) (place t k) (split-fits t k) (Chosen t r) (r .before .before .before .before .before .before .before .before .before .before .link-at4 .ensures) (x .before .before .before .before .before .without .result) _ _ (x .before .before .before .before .before .without .ensures) (x .before .before .take-out .ensures) (x .take-out2 .ensures)
+    broken-is (net t (told t k)) (workable t (told t k)) (place t k) (split-fits t k) (Chosen t r) (r .before .before .before .before .before .before .before .before .before .before .link-at4 .ensures) (x .before .before .before .before .before .without2 .result) _ _ (x .before .before .before .before .before .without2 .ensures) (x .before .before .take-out .ensures) (x .take-out2 .ensures)
 
 without-sized : (t : ℕ) (x : Taken t) → Sized (without-it t x)
 without-sized t x =
     let r = worked-of t x in
     let k = split-of t r in
-    broken-sized (net t (told t k)) (workable t (told t k)) (place t k) (split-fits t k) (Chosen t r) (r .before .before .before .before .before .before .before .before .before .before .link-at4 .ensures) (x .before .before .before .before .before .without .result) _ _ (x .before .before .before .before .before .without .ensures) (x .before .before .take-out .ensures) (x .take-out2 .ensures)
+    broken-sized (net t (told t k)) (workable t (told t k)) (place t k) (split-fits t k) (Chosen t r) (r .before .before .before .before .before .before .before .before .before .before .link-at4 .ensures) (x .before .before .before .before .before .without2 .result) _ _ (x .before .before .before .before .before .without2 .ensures) (x .before .before .take-out .ensures) (x .take-out2 .ensures)
 
 run-count-requires : (t : ℕ) → run-lts.Need-count-requires (claims t) (run-at t) run.Post
 run-count-requires t c κs =
@@ -415,14 +451,14 @@ without-apart t n =
     let x = n .before .before in
     let r = worked-of t x in
     let k = split-of t r in
-    broken-apart (net t (told t k)) (workable t (told t k)) (place t k) (split-fits t k) (Chosen t r) (r .before .before .before .before .before .before .before .before .before .before .link-at4 .ensures) (x .before .before .before .before .before .without .result) _ _ (x .before .before .before .before .before .without .ensures) (x .before .before .take-out .ensures) (x .take-out2 .ensures) (n .count .result) (n .count .ensures)
+    broken-apart (net t (told t k)) (workable t (told t k)) (place t k) (split-fits t k) (Chosen t r) (r .before .before .before .before .before .before .before .before .before .before .link-at4 .ensures) (x .before .before .before .before .before .without2 .result) _ _ (x .before .before .before .before .before .without2 .ensures) (x .before .before .take-out .ensures) (x .take-out2 .ensures) (n .count .result) (n .count .ensures)
 
 without-work : (t : ℕ) (n : Counted t) → n .count .result ≤ 1 → Workable (without-it t (n .before .before))
 without-work t n =
     let x = n .before .before in
     let r = worked-of t x in
     let k = split-of t r in
-    broken-work (net t (told t k)) (workable t (told t k)) (place t k) (split-fits t k) (Chosen t r) (r .before .before .before .before .before .before .before .before .before .before .link-at4 .ensures) (x .before .before .before .before .before .without .result) _ _ (x .before .before .before .before .before .without .ensures) (x .before .before .take-out .ensures) (x .take-out2 .ensures) (n .count .result) (n .count .ensures)
+    broken-work (net t (told t k)) (workable t (told t k)) (place t k) (split-fits t k) (Chosen t r) (r .before .before .before .before .before .before .before .before .before .before .link-at4 .ensures) (x .before .before .before .before .before .without2 .result) _ _ (x .before .before .before .before .before .without2 .ensures) (x .before .before .take-out .ensures) (x .take-out2 .ensures) (n .count .result) (n .count .ensures)
 
 -- the figure of the split, from those of its branches
 split-figure : (t : ℕ) (r : Worked t) (f b : Figure) → let l = told t (split-of t r) .before .args .limit in
@@ -435,10 +471,10 @@ split-figure t r f b made is =
     let l = o .before .args .limit in
     made
     ∙ blended (Chosen t r) (linkOf n (place t k)) (r .run3 .result) b (sound t k) (broken t r) (l - 1) (chosen-link t r) (sound-figure t r) is
-    ∙ figure-branches (networkOf n) (workable t o .holds .valid) l (linkOf n (place t k)) (sound t k) (broken t r) (rule n (workable t o) (Split (place t k)) (split-fits t k)) (omega (arith, k .if1 .left))
+    ∙ figure-branches (networkOf n) (workable t o .holds .valid) l (linkOf n (place t k)) (sound t k) (broken t r) (rule n (workable t o) (Split (place t k)) (split-fits t k)) (omega (arith, k .if2 .left))
 
-run-settled-requires-2 : (t : ℕ) → run-lts.Need-settled-requires-2 (claims t) (run-at t) run.Post
-run-settled-requires-2 t c κs = search needs
+run-settled-requires-3 : (t : ℕ) → run-lts.Need-settled-requires-3 (claims t) (run-at t) run.Post
+run-settled-requires-3 t c κs = search needs
 
 run-blend-requires : (t : ℕ) → run-lts.Need-blend-requires (claims t) (run-at t) run.Post
 run-blend-requires t c κs =
@@ -446,17 +482,17 @@ run-blend-requires t c κs =
     let r = worked-of t (n .before .before) in
     let e = chosen-within t r in
     let f = sound-within t r in
-    let z = c .settled2 .ensures in
+    let z = c .settled3 .ensures in
     (e .0, e .1, f .0, f .1, omega (arith, ap (λ (g : Figure). g .low) z), omega (arith, ap (λ (g : Figure). g .high) z), omega (arith, ap (λ (g : Figure). g .steps) z, sound-steps t r, told t (split-of t r) .before .pre .1 .1))
 
-run-returns-2 : (t : ℕ) → run-lts.Need-returns-2 (claims t) (run-at t) run.Post
-run-returns-2 t c =
+run-returns-3 : (t : ℕ) → run-lts.Need-returns-3 (claims t) (run-at t) run.Post
+run-returns-3 t c =
     let n = c .before .before .before in
     let r = worked-of t (n .before .before) in
-    split-figure t r (c .blend .result) (c .before .settled2 .result) (c .blend .ensures) (c .before .settled2 .ensures ∙ without-apart t n (omega (arith, c .before .before .if2 .taken)) _)
+    split-figure t r (c .blend .result) (c .before .settled3 .result) (c .blend .ensures) (c .before .settled3 .ensures ∙ without-apart t n (omega (arith, c .before .before .if3 .taken)) _)
 
 run-sub-left : (t : ℕ) → run-lts.Need-sub-left (claims t) (run-at t) run.Post
-run-sub-left t c = omega (arith, c .before .before .before .before .before .before .before .before .before .before .before .before .before .before .before .before .before .before .before .before .if1 .left)
+run-sub-left t c = omega (arith, c .before .before .before .before .before .before .before .before .before .before .before .before .before .before .before .before .before .before .before .before .if2 .left)
 
 run-cast-left : (t : ℕ) → run-lts.Need-cast-left (claims t) (run-at t) run.Post
 run-cast-left t c = search needs
@@ -473,7 +509,7 @@ run-run-requires-4 t c κs =
     let k = split-of t r in
     let o = told t k in (
       less t o _ (fewer (networkOf (net t o)) (without-it t x) (without-is t x .0) (broken-below (net t o) (workable t o) (place t k) (split-fits t k))),
-      (without-work t n (omega (arith, c .before .before .if2 .left)), omega (arith, o .before .pre .1 .1)),
+      (without-work t n (omega (arith, c .before .before .if3 .left)), omega (arith, o .before .pre .1 .1)),
     )
 
 run-blend-requires-2 : (t : ℕ) → run-lts.Need-blend-requires-2 (claims t) (run-at t) run.Post
@@ -485,30 +521,27 @@ run-blend-requires-2 t c κs =
     let f = sound-within t r in
     let w = figure-within (without-it t x) (without-is t x .1) _ (c .run4 .result) (c .run4 .ensures) in
     let s = steps-within (without-it t x) (without-is t x .1) _ (c .run4 .result) (c .run4 .ensures) in
-    (e .0, e .1, f .0, f .1, w .0, w .1, omega (arith, s, sound-steps t r, told t (split-of t r) .before .pre .1 .1, split-of t r .if1 .left))
-
-run-returns-3 : (t : ℕ) → run-lts.Need-returns-3 (claims t) (run-at t) run.Post
-unfolding leaves ranked
-run-returns-3 t c =
-    let o = c .before .before .before in
-    c .settled .ensures ∙ figure-settled (graph t o) (workable t o .holds .valid) (o .before .args .limit) S (rule (net t o) (workable t o) OneNode (fitting t o One (c .before .enum-told .given .1)))
+    (e .0, e .1, f .0, f .1, w .0, w .1, omega (arith, s, sound-steps t r, told t (split-of t r) .before .pre .1 .1, split-of t r .if2 .left))
 
 run-returns-4 : (t : ℕ) → run-lts.Need-returns-4 (claims t) (run-at t) run.Post
 unfolding leaves ranked
 run-returns-4 t c =
-    let l = c .before .before .before .before .before .before .before .before in
-    let k = l .before .before .before in
-    let o = l .before .before .before .before .before .before in
-    let a = l .before .before .link-at in
-    let n = net t o in
-    let m = o .before .args .limit in
-    let u = end-fits t k .placed .1 in
-    c .times .ensures ∙ ap₂ (λ (e : Link) (f : Figure). times (λ d. value d e) f) (link-is n (workable t o) (a .result) _ u (a .ensures)) (c .before .run .ensures ∙ ap (λ (h : Graph). figure h m) (end-is t l))
-    ∙ figure-scaled (graph t o) (workable t o .holds .valid) m _ _ (rule n (workable t o) (End _ _) (end-fits t k))
+    let o = c .before .before .before in
+    c .settled .ensures ∙ figure-settled (graph t o) (workable t o .holds .valid) (o .before .args .limit) S (rule (net t o) (workable t o) OneNode (fitting t o One (c .before .enum-told .given .1)))
 
 run-returns-5 : (t : ℕ) → run-lts.Need-returns-5 (claims t) (run-at t) run.Post
 unfolding leaves ranked
 run-returns-5 t c =
+    let l = c .before .before .before .before .before .before .before .before in
+    let k = l .before .before .before .before .before .before in
+    let o = l .before .before .before .before .before .before .before .before .before in
+    let m = o .before .args .limit in
+    c .times2 .ensures ∙ ap₂ (λ (e : Link) (f : Figure). times (λ d. value d e) f) (end-link t (l .before .before .before .before .before)) (c .before .run .ensures ∙ ap (λ (h : Graph). figure h m) (end-is t l))
+    ∙ figure-scaled (graph t o) (workable t o .holds .valid) m _ _ (rule (net t o) (workable t o) (End _ _) (end-fits t k))
+
+run-returns-6 : (t : ℕ) → run-lts.Need-returns-6 (claims t) (run-at t) run.Post
+unfolding leaves ranked
+run-returns-6 t c =
     let q = c .before .before .before .before .before .before .before .before .parallel in
     let l = c .before .before .before .before .before .before .before .before .before in
     let o = l .before .before .before .before .before .before .before in
@@ -523,8 +556,8 @@ run-returns-5 t c =
     ∙ ap₂ (λ (e : Link × Link) (f : Figure). times (λ d. factor d (value d (e .0)) (value d (e .1))) f) links (c .before .run2 .ensures ∙ unpaired-same (series-plainly t l) (l .series .result) (q .result) (series-is t l) (q .ensures .0) m)
     ∙ figure-scaled (graph t o) (w .holds .valid) m _ _ (rule n w (Series _ _ _) k)
 
-run-returns-6 : (t : ℕ) → run-lts.Need-returns-6 (claims t) (run-at t) run.Post
-run-returns-6 t c =
+run-returns-7 : (t : ℕ) → run-lts.Need-returns-7 (claims t) (run-at t) run.Post
+run-returns-7 t c =
     let x = c .before .before .before .before .before .before .before in
     let r = worked-of t x in
     let l = told t (split-of t r) .before .args .limit in
@@ -539,10 +572,15 @@ pub +run-spec : {M : Type 1} → statement M
     (run-settled-requires t)
     (run-enum-known-v t)
     (run-link-at-requires t)
+    (run-without-requires t)
+    (run-at-most-one-requires t)
+    (run-settled-requires-2 t)
+    (run-times-requires t)
+    (run-returns t)
     (run-assembled-requires t)
     (run-end-requires t)
     (run-run-requires t)
-    (run-times-requires t)
+    (run-times-requires-2 t)
     (run-enum-known-v-2 t)
     (run-link-at-requires-2 t)
     (run-link-at-requires-3 t)
@@ -553,26 +591,26 @@ pub +run-spec : {M : Type 1} → statement M
     (run-times-factor-requires t)
     (run-enum-known-i t)
     (run-unfinished-requires t)
-    (run-returns t)
+    (run-returns-2 t)
     (run-link-at-requires-4 t)
     (run-assembled-requires-3 t)
     (run-contracted-requires t)
     (run-parallel-requires-2 t)
     (run-sub-run t)
     (run-run-requires-3 t)
-    (run-without-requires t)
+    (run-without-requires-2 t)
     (run-take-out-requires t)
     (run-take-out-requires-2 t)
     (run-count-requires t)
-    (run-settled-requires-2 t)
+    (run-settled-requires-3 t)
     (run-blend-requires t)
-    (run-returns-2 t)
+    (run-returns-3 t)
     (run-sub-left t)
     (run-cast-left t)
     (run-sub-left-2 t)
     (run-run-requires-4 t)
     (run-blend-requires-2 t)
-    (run-returns-3 t)
     (run-returns-4 t)
     (run-returns-5 t)
     (run-returns-6 t)
+    (run-returns-7 t)
