@@ -93,11 +93,10 @@ pub pair-connected : (g : Network) (i j : ℕ) → AtPair g i j → Connected g 
 pair-connected g i j h =
     let e = linkAt g i in
     let f = linkAt g j in
-    let new = inParallel e f in
-    let path = new-path g i j new (h .order) (h .place) in
+    let path : Path (map ends (sideBySide i j g .links)) (e .a) (e .b) = new-path g i j _ (h .order) (h .place) in
     onto-connected g (sideBySide i j g) (λ v. v) (λ w m. (w, m, refl)) (λ k m. ⊎-elim
     (λ (q : k ≡ e). rw q path)
-    (⊎-elim (λ (q : k ≡ f). rw q (either-way (λ v. v) f (e .a) (e .b) (h .alike) path)) (other-path g i j new (h .order) (h .place)))
+    (⊎-elim (λ (q : k ≡ f). rw q (either-way (λ v. v) f (e .a) (e .b) (h .alike) path)) (other-path g i j _ (h .order) (h .place)))
     (which (g .links) i j _ (h .order) m))
 
 module _ (g : Network) (valid : Valid g) where

@@ -2,7 +2,7 @@
 use Prim.Native.Nat.{ℕ, zero, suc, _-_, _≤_, _<_, min, max}
 use mathlib.Core.Path.{_≡_, refl, sym, ap, _∙_, subst}
 use mathlib.Core.List.{List, [], _∷_, map, List·Memᴰ, List·Memᴰ·head, List·Memᴰ·tail, List·Memᴰ·not-nil, List·Memᴰ·eq-of-singleton, Memᴰ·cast, Memᴰ·of-map}
-use mathlib.Core.Bool.{true, false, cond, true≢false}
+use mathlib.Core.Bool.{Bool, true, false, cond, true≢false}
 use mathlib.Core.Logic.{_⊎_, inl, inr, ⊎-elim}
 use mathlib.Core.Option.{Option, some, none}
 use native.Mathlib.Nat.{not-suc-le-zero, le-of-suc-le-suc, le-refl, le-of-eq}
@@ -12,6 +12,7 @@ use lib.ListN.{length, set, length-set}
 use lib.Seq.{lt-length-set}
 use borrow.Author.Tests.{leb-false, eqb-false, ne-eqb, le-leb, lt-leb}
 use Rattle.reliability.specs.declared.Link.{Link}
+use Rattle.reliability.specs.declared.Step.{Step}
 use Rattle.reliability.specs.declared.Step.the-variants.{OneNode, Parallel, Series, Split}
 use Rattle.reliability.specs.Networks.{Network, Valid, Ends, ends, linkAt, connected, lastOfEach, pieces, piecesOf}
 use Rattle.reliability.specs.Rule.{isLoop, deleteAt, firstAt, firstPair, lowest, endOf, seriesOf, when, _otherwise_, nextAt, chosen, next, leaves, rest, deleted, removed, joined, contracted, inParallel, inSeries, rename, renamed, across, bounded, figure}
@@ -21,7 +22,7 @@ use Rattle.reliability.proofs.Pieces.{connected-pieces, first-parted}
 use Rattle.reliability.proofs.Searches.{Answers, nth, none-found, Pair, Distinct, first-pair, no-pair, distinct-delete}
 use Rattle.reliability.proofs.States.{Joins}
 use Rattle.reliability.proofs.Validity.{mem-joined, larger-smaller, proper-at, deleted-valid, joined-valid, removed-valid, contracted-valid, parallel-proper}
-use Rattle.reliability.proofs.Steps.{AtPair, AtEnd, AtSeries, AtSplit, joins-alike, at-pair, next-by, step-by-connection}
+use Rattle.reliability.proofs.Steps.{AtPair, AtEnd, AtSeries, AtSplit, joins-alike, at-pair, inTurn, next-by, step-by-connection}
 use Rattle.reliability.proofs.Remainders.{left-by}
 use Rattle.reliability.proofs.Unrolled.{Below, figure-rest, below-rest}
 use Rattle.reliability.proofs.Separate.{separate-figure}
@@ -65,7 +66,14 @@ module _ (g : Network) (valid : Valid g) (i : ℕ) (first : firstAt isLoop (g .l
 -- no step but 2, 5, 6 and 7 fits a simple network
 pub simple-next : (g : Network) → Simple g → (k : ℕ) → nextAt k g
     ≡ (when (leb (length (g .nodes)) 1) OneNode otherwise lowest endOf (g .links) (g .nodes) otherwise lowest seriesOf (g .links) (g .nodes) otherwise Split k)
-simple-next g simple k = step-by-connection k g ∙ rw (simple .plain .loopless, simple .plain .connected, simple .pairless)
+simple-next g simple k = step-by-connection k g ∙ told none (simple .plain .loopless) true (simple .plain .connected) none (simple .pairless)
+  where
+    first : Option ℕ → Bool → Option (ℕ × ℕ) → Step
+    first loop whole pair = inTurn loop (leb (length (g .nodes)) 1) whole pair (lowest endOf (g .links) (g .nodes)) (lowest seriesOf (g .links) (g .nodes)) k
+
+    told : (loop : Option ℕ) → firstAt isLoop (g .links) ≡ loop → (whole : Bool) → connected (g .nodes) (map ends (g .links)) ≡ whole → (pair : Option (ℕ × ℕ)) → firstPair (g .links) ≡ pair
+        → first (firstAt isLoop (g .links)) (connected (g .nodes) (map ends (g .links))) (firstPair (g .links)) ≡ first loop whole pair
+    told loop l whole w pair p = rw (l, w, p)
 
 -- ---- what each step leaves of a simple network
 
@@ -165,7 +173,21 @@ module _ (g : Network) (simple : Simple g) where
 
 -- ---- step 4 as often as it fits
 
+-- step 4 leaves links i and j as one
+pair-leaves : (g : Network) (i j : ℕ) → leaves g (Parallel i j) ≡ rest (sideBySide i j g)
+unfolding leaves
+pair-leaves g i j = refl
+
+joined-none : (m : ℕ) (g : Network) → Pairless g → joinedPairs m g ≡ g
+unfolding joinedPairs
+joined-none zero g pairless = refl
+joined-none (suc m) g pairless = rw (pairless, joinedPairs)
+
 module _ (g : Network) (i j : ℕ) (found : firstPair (g .links) ≡ some (i, j)) where
+  joined-here : (m : ℕ) → joinedPairs (suc m) g ≡ joinedPairs m (sideBySide i j g)
+  unfolding joinedPairs
+  joined-here m = rw (found, joinedPairs)
+
   pub pair-at : AtPair g i j
   pair-at = at-pair g (i, j) (subst (Answers (Pair (g .links)) (Distinct (g .links))) found (first-pair (g .links)))
 
@@ -174,9 +196,27 @@ module _ (g : Network) (i j : ℕ) (found : firstPair (g .links) ≡ some (i, j)
       let e = inParallel (linkAt g i) (linkAt g j) in
       length-delete (set (g .links) i e) (lt-length-set (g .links) i e (pair-at .place)) ∙ length-set (g .links) i e
 
+-- as often as there are links, or more often
+often : (k m : ℕ) (g : Network) → length (g .links) ≤ k → length (g .links) ≤ m → joinedPairs k g ≡ joinedPairs m g
+often k m g h l = go k m g h l (firstPair (g .links)) refl
+  where
+    go : (k m : ℕ) (g : Network) → length (g .links) ≤ k → length (g .links) ≤ m → (o : Option (ℕ × ℕ)) → firstPair (g .links) ≡ o → joinedPairs k g ≡ joinedPairs m g
+    go zero m g h l none e = joined-none zero g e ∙ sym (joined-none m g e)
+    go (suc k) zero g h l none e = joined-none (suc k) g e ∙ sym (joined-none zero g e)
+    go (suc k) (suc m) g h l none e = joined-none (suc k) g e ∙ sym (joined-none (suc m) g e)
+    go zero m g h l (some ij) e = absurd (omega (arith, pair-fewer g (ij .0) (ij .1) e))
+    go (suc k) zero g h l (some ij) e = absurd (omega (arith, pair-fewer g (ij .0) (ij .1) e))
+    go (suc k) (suc m) g h l (some ij) e =
+        let r = sideBySide (ij .0) (ij .1) g in
+        let fewer = pair-fewer g (ij .0) (ij .1) e in
+        joined-here g (ij .0) (ij .1) e k ∙ go k m r (omega (arith, fewer)) (omega (arith, fewer)) (firstPair (r .links)) refl ∙ sym (joined-here g (ij .0) (ij .1) e m)
+
+module _ (g : Network) (i j : ℕ) (found : firstPair (g .links) ≡ some (i, j)) where
+  joined-often : (k m : ℕ) → length (g .links) ≤ k → length (sideBySide i j g .links) ≤ m → joinedPairs k g ≡ joinedPairs m (sideBySide i j g)
+  joined-often k m h l = often k (suc m) g h (omega (arith, l, pair-fewer g i j found)) ∙ joined-here g i j found m
+
   pub unpaired-here : unpaired g ≡ unpaired (sideBySide i j g)
-  unfolding joinedPairs
-  unpaired-here = ap (λ m. joinedPairs m g) (sym pair-fewer) ∙ rw (found, joinedPairs)
+  unpaired-here = joined-often _ _ (omega arith) (omega arith)
 
 pub pair-valid : (g : Network) → Valid g → (i j : ℕ) → firstPair (g .links) ≡ some (i, j) → Valid (sideBySide i j g)
 pair-valid g valid i j found =
@@ -184,12 +224,7 @@ pair-valid g valid i j found =
     joined-valid g valid i j _ (p .order) (parallel-proper (g .nodes) (linkAt g i) (linkAt g j) (proper-at g valid i (omega arith)) (proper-at g valid j (p .place)))
 
 pub unpaired-none : (g : Network) → Pairless g → unpaired g ≡ g
-unfolding joinedPairs
-unpaired-none g pairless = go (length (g .links))
-  where
-    go : (m : ℕ) → joinedPairs m g ≡ g
-    go zero = refl
-    go (suc m) = rw (pairless, joinedPairs)
+unpaired-none g pairless = joined-none _ g pairless
 
 -- what holds without a pair, and with a pair where it holds with that pair as one, holds of every network
 by-pairs : (P : Network → Type 0) → ((g : Network) → Pairless g → P g) → ((g : Network) (i j : ℕ) → firstPair (g .links) ≡ some (i, j) → P (sideBySide i j g) → P g) → (g : Network) → P g
@@ -238,8 +273,7 @@ module _ (g : Network) (plain : Plain g) (i j : ℕ) (pair : firstPair (g .links
       step-by-connection (chosen g) g ∙ rw (plain .loopless, lt-leb (length (g .nodes)) 1 two, plain .connected, pair)
 
   pub pair-figure : (limit : ℕ) → figure (sideBySide i j g) limit ≡ figure g limit
-  unfolding leaves
-  pair-figure limit = figure-rest g (plain .valid) limit (sideBySide i j g) (ap (leaves g) pair-next)
+  pair-figure limit = figure-rest g (plain .valid) limit (sideBySide i j g) (ap (leaves g) pair-next ∙ pair-leaves g i j)
 
 pub unpaired-simple : (g : Network) → Plain g → Simple (unpaired g)
 unpaired-simple = by-pairs (λ g. Plain g → Simple (unpaired g))

@@ -163,7 +163,7 @@ run-times-requires : (t : ℕ) → run-lts.Need-times-requires (claims t) (run-a
 run-times-requires t c κs =
     let e = end-within t (c .before .before .before .before) in
     let z = c .settled2 .ensures in
-    (e .0, e .1, omega (arith, ap (λ (g : Figure). g .low) z), omega (arith, ap (λ (g : Figure). g .high) z))
+    (omega (arith, e), omega (arith, e), omega (arith, ap (λ (g : Figure). g .low) z), omega (arith, ap (λ (g : Figure). g .high) z))
 
 run-returns : (t : ℕ) → run-lts.Need-returns (claims t) (run-at t) run.Post
 unfolding leaves ranked
@@ -208,7 +208,7 @@ run-times-requires-2 t c κs =
     let l = c .before .before .before .before .before .before .before in
     let e = end-within t (l .before .before .before .before .before) in
     let w = figure-within (l .end .result) (l .end .ensures .1) _ (c .run .result) (c .run .ensures) in
-    (e .0, e .1, w .0, w .1)
+    (omega (arith, e), omega (arith, e), w .0, w .1)
 
 run-enum-known-v-2 : (t : ℕ) → run-lts.Need-enum-known-v-2 (claims t) (run-at t) run.Post
 run-enum-known-v-2 t c = search needs
@@ -261,8 +261,9 @@ run-run-requires-2 t c κs =
     let l = c .before .before .before .before .before .before .before in
     let o = l .before .before .before .before .before .before .before in
     let n = net t o in
-    let r = l .series .result in (
-      less t o _ (unpaired-less (series-plainly t l) r (q .result) (series-is t l) (q .ensures .0) (networkOf n) (series-below n (workable t o) _ _ _ (series-fits t (l .before .before .before .before)))),
+    let r = l .series .result in
+    let b = series-below n (workable t o) _ _ _ (series-fits t (l .before .before .before .before)) in (
+      omega (arith, less t o _ (unpaired-less (series-plainly t l) r (q .result) (series-is t l) (q .ensures .0) (networkOf n) b), less t o _ (fewer (networkOf n) r (series-is t l) b)),
       (unpaired-work (series-plainly t l) r (q .result) (series-is t l) (q .ensures .0) (sized-of (q .lifetimes) (q .result) (q .ok)) (q .ensures .1), omega (arith, o .before .pre .1 .1)),
     )
 
@@ -278,7 +279,7 @@ run-times-factor-requires t c κs =
     let e = link-within (net t o) (w .holds) (w .sized) (x .result) _ (u .1) (link-is (net t o) w (x .result) _ (u .1) (x .ensures)) in
     let k = link-within (net t o) (w .holds) (w .sized) (y .result) _ (u .2) (link-is (net t o) w (y .result) _ (u .2) (y .ensures)) in
     let f = figure-within (q .result) (q .ensures .1) _ (c .run2 .result) (c .run2 .ensures) in
-    (e .0, e .1, k .0, k .1, f .0, f .1)
+    (omega (arith, e, k), omega (arith, e, k), omega (arith, e, k), omega (arith, e, k), f .0, f .1)
 
 run-enum-known-i : (t : ℕ) → run-lts.Need-enum-known-i (claims t) (run-at t) run.Post
 run-enum-known-i t c = search needs
@@ -356,8 +357,9 @@ run-run-requires-3 t c κs =
     let k = chosen-at t l in
     let o = told t k in
     let n = net t o in
-    let r = l .contracted .result in (
-      less t o _ (unpaired-less (sound-plainly t k) r (q .result) (sound-is t l) (q .ensures .0) (networkOf n) (sound-below n (workable t o) _ (split-fits t k))),
+    let r = l .contracted .result in
+    let b = sound-below n (workable t o) _ (split-fits t k) in (
+      omega (arith, less t o _ (unpaired-less (sound-plainly t k) r (q .result) (sound-is t l) (q .ensures .0) (networkOf n) b), less t o _ (fewer (networkOf n) r (sound-is t l) b)),
       (unpaired-work (sound-plainly t k) r (q .result) (sound-is t l) (q .ensures .0) (sized-of (q .lifetimes) (q .result) (q .ok)) (q .ensures .1), omega (arith, o .before .pre .1 .1)),
     )
 
@@ -403,13 +405,13 @@ run-take-out-requires : (t : ℕ) → run-lts.Need-take-out-requires (claims t) 
 run-take-out-requires t c κs =
     let r = c .before .before .before in
     let k = split-of t r in
-    (workable t (told t k) .sized .at-length, link-within-32 t r .0, split-fits t k .placed .below)
+    (workable t (told t k) .sized .at-length, omega (arith, link-within-32 t r), split-fits t k .placed .below)
 
 run-take-out-requires-2 : (t : ℕ) → run-lts.Need-take-out-requires-2 (claims t) (run-at t) run.Post
 run-take-out-requires-2 t c κs =
     let r = c .before .before .before .before .before in
     let k = split-of t r in
-    (c .before .take-out .ensures .size ∙ workable t (told t k) .sized .at-length, link-within-32 t r .1, split-fits t k .placed .below)
+    (c .before .take-out .ensures .size ∙ workable t (told t k) .sized .at-length, omega (arith, link-within-32 t r), split-fits t k .placed .below)
 
 abbrev Taken : ℕ → Type 0
 Taken t = run-lts.After-take-out2 (claims t) (run-at t) run.Post
@@ -483,7 +485,9 @@ run-blend-requires t c κs =
     let e = chosen-within t r in
     let f = sound-within t r in
     let z = c .settled3 .ensures in
-    (e .0, e .1, f .0, f .1, omega (arith, ap (λ (g : Figure). g .low) z), omega (arith, ap (λ (g : Figure). g .high) z), omega (arith, ap (λ (g : Figure). g .steps) z, sound-steps t r, told t (split-of t r) .before .pre .1 .1))
+    let low = ap (λ (g : Figure). g .low) z in
+    let high = ap (λ (g : Figure). g .high) z in
+    (e .0, e .1, omega (arith, f, low), omega (arith, f, high), omega (arith, f, low), omega (arith, f, high), omega (arith, ap (λ (g : Figure). g .steps) z, sound-steps t r, told t (split-of t r) .before .pre .1 .1))
 
 run-returns-3 : (t : ℕ) → run-lts.Need-returns-3 (claims t) (run-at t) run.Post
 run-returns-3 t c =
@@ -521,7 +525,7 @@ run-blend-requires-2 t c κs =
     let f = sound-within t r in
     let w = figure-within (without-it t x) (without-is t x .1) _ (c .run4 .result) (c .run4 .ensures) in
     let s = steps-within (without-it t x) (without-is t x .1) _ (c .run4 .result) (c .run4 .ensures) in
-    (e .0, e .1, f .0, f .1, w .0, w .1, omega (arith, s, sound-steps t r, told t (split-of t r) .before .pre .1 .1, split-of t r .if2 .left))
+    (e .0, e .1, omega (arith, f, w), omega (arith, f, w), omega (arith, f, w), omega (arith, f, w), omega (arith, s, sound-steps t r, told t (split-of t r) .before .pre .1 .1, split-of t r .if2 .left))
 
 run-returns-4 : (t : ℕ) → run-lts.Need-returns-4 (claims t) (run-at t) run.Post
 unfolding leaves ranked

@@ -63,6 +63,17 @@ work-first-loop-requires t c κs = search needs
 work-enum-known-i : (t : ℕ) → work-lts.Need-enum-known-i (claims t) (work-at t) work.Post
 work-enum-known-i t c = search needs
 
+-- ---- no loop
+
+abbrev None-known : ℕ → Type 0
+None-known t = work-lts.After-enum-told (claims t) (work-at t) work.Post
+
+abbrev begun : (t : ℕ) → None-known t → Start t
+begun t k = k .before .before .before .before .before .before
+
+loopless : (t : ℕ) (k : None-known t) → Loopless (networkOf (begun t k .args .t1))
+loopless t k = loop-missed (begun t k .args .t1) (sized t (begun t k)) (sym (k .before .before .first-loop .ensures) ∙ k .enum-told .given .1)
+
 -- ---- a loop
 
 abbrev Loop-known : ℕ → Type 0
@@ -94,16 +105,7 @@ work-returns t c =
 work-enum-told : (t : ℕ) → work-lts.Need-enum-told (claims t) (work-at t) work.Post
 work-enum-told t c = search needs
 
--- ---- none
-
-abbrev None-known : ℕ → Type 0
-None-known t = work-lts.After-enum-told (claims t) (work-at t) work.Post
-
-abbrev begun : (t : ℕ) → None-known t → Start t
-begun t k = k .before .before .before .before .before .before
-
-loopless : (t : ℕ) (k : None-known t) → Loopless (networkOf (begun t k .args .t1))
-loopless t k = loop-missed (begun t k .args .t1) (sized t (begun t k)) (sym (k .before .before .first-loop .ensures) ∙ k .enum-told .given .1)
+-- ---- no loop is left
 
 work-pieces-requires : (t : ℕ) → work-lts.Need-pieces-requires (claims t) (work-at t) work.Post
 work-pieces-requires t c κs =
@@ -135,7 +137,7 @@ work-run-requires t c κs =
     let q = c .before .before .before .before .before .before .parallel in
     let w = c .before .before .before .before .before .before .before in
     let s = begun t (w .before .before) in
-    (unpaired-work (plain t w) (s .args .t1) (q .result) refl (q .ensures .0) (sized-of (q .lifetimes) (q .result) (q .ok)) (q .ensures .1), s .pre .1 .1)
+    (unpaired-work (plain t w) (s .args .t1) (q .result) refl (q .ensures .0) (sized-of (q .lifetimes) (q .result) (q .ok)) (q .ensures .1), omega (arith, s .pre .1 .1))
 
 work-returns-3 : (t : ℕ) → work-lts.Need-returns-3 (claims t) (work-at t) work.Post
 work-returns-3 t c =

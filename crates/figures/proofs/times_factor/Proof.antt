@@ -1,6 +1,6 @@
 use Prim.Native.Nat.{ℕ}
 use mathlib.Core.Path.{ap₂, _∙_}
-use Rattle.rounding.specs.declared.Direction.the-variants.{Down, Up}
+use native.Mathlib.Omega.{arith}
 use Rattle.rounding.proofs.Operations.{factor-range}
 use Rattle.reliability.specs.Rule.{times}
 use Rattle.figures.specs.Sides.{sides}
@@ -17,8 +17,8 @@ factor-requires-2 c κs = search needs
 times-requires : tie.Need-times-requires
 times-requires c κs =
     let a = c .before .before in (
-      rw (c .before .factor .ensures) (factor-range Down (a .args .e .low) (a .args .k .low) (a .pre .0) (a .pre .2)),
-      rw (c .factor2 .ensures) (factor-range Up (a .args .e .high) (a .args .k .high) (a .pre .1) (a .pre .3)),
+      rw (c .before .factor .ensures) (factor-range _ _ _ (omega (arith, a .pre)) (omega (arith, a .pre))),
+      rw (c .factor2 .ensures) (factor-range _ _ _ (omega (arith, a .pre)) (omega (arith, a .pre))),
       a .pre .4,
       a .pre .5,
     )

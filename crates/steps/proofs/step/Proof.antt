@@ -19,7 +19,17 @@ use Rattle.steps.proofs.step.Tie as tie
 abbrev net : tie.Start → Network
 net s = assembled (s .args .alive) (s .args .nodes) (s .args .at .now) (s .args .a .now) (s .args .b .now) (s .args .low .now) (s .args .high .now)
 
--- ---- what each test has shown
+-- ---- one node
+
+at-most-one-requires : tie.Need-at-most-one-requires
+at-most-one-requires c κs = search needs
+
+returns : tie.Need-returns
+returns c =
+    let s = c .before .before in
+    one-right (net s) (s .pre) (sym (c .before .at-most-one .ensures) ∙ c .if1 .taken)
+
+-- ---- what the tests have shown
 
 more : (c : tie.Else1) → leb (howMany (members (c .before .before .args .nodes))) 1 ≡ false
 more c = sym (c .before .at-most-one .ensures) ∙ c .if1 .left
@@ -30,15 +40,22 @@ tested t = t .before .before .before
 no-end : (t : tie.After-enum-told) → let n = net (tested t .before .before) in withLinks 1 (n .at) (n .nodes) ≡ []
 no-end t = missed _ (sym (t .before .before .lowest-with .ensures) ∙ t .enum-told .given .1)
 
--- ---- the steps
+-- ---- a split
 
-at-most-one-requires : tie.Need-at-most-one-requires
-at-most-one-requires c κs = search needs
+enum-told-2 : tie.Need-enum-told-2
+enum-told-2 c = search needs
 
-returns : tie.Need-returns
-returns c =
-    let s = c .before .before in
-    one-right (net s) (s .pre) (sym (c .before .at-most-one .ensures) ∙ c .if1 .taken)
+lowest-requires-4 : tie.Need-lowest-requires-4
+lowest-requires-4 c κs = search needs
+
+returns-4 : tie.Need-returns-4
+returns-4 c =
+    let f = c .before .before .before in
+    let t = f .before in
+    let s = tested t .before .before in
+    split-right (net s) (s .pre) (more (tested t)) (no-end t) (missed _ (sym (f .lowest-with2 .ensures) ∙ c .before .enum-told2 .given .1)) _ (c .lowest4 .ensures)
+
+-- ---- an end
 
 lowest-with-requires : tie.Need-lowest-with-requires
 lowest-with-requires c κs = search needs
@@ -68,6 +85,8 @@ returns-2 c =
     let f = k .before .before .before in
     let s = f .before .before .before in
     end-right (net s) (s .pre) (more (f .before)) _ _ (sym (f .lowest-with .ensures) ∙ k .before .v .given .1) (c .lowest .ensures)
+
+-- ---- two links in series
 
 enum-told : tie.Need-enum-told
 enum-told c = search needs
@@ -108,19 +127,6 @@ returns-3 c =
     let t = f .before in
     let s = tested t .before .before in
     series-right (net s) (s .pre) (more (tested t)) (no-end t) _ _ _ _ (sym (f .lowest-with2 .ensures) ∙ k .before .v2 .given .1) (c .before .before .lowest2 .ensures) (c .before .without-lowest .ensures) (c .lowest3 .ensures)
-
-enum-told-2 : tie.Need-enum-told-2
-enum-told-2 c = search needs
-
-lowest-requires-4 : tie.Need-lowest-requires-4
-lowest-requires-4 c κs = search needs
-
-returns-4 : tie.Need-returns-4
-returns-4 c =
-    let f = c .before .before .before in
-    let t = f .before in
-    let s = tested t .before .before in
-    split-right (net s) (s .pre) (more (tested t)) (no-end t) (missed _ (sym (f .lowest-with2 .ensures) ∙ c .before .enum-told2 .given .1)) _ (c .lowest4 .ensures)
 
 pub step-spec : {M : Type 1} → statement M
 step-spec =
