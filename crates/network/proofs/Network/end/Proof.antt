@@ -1,4 +1,5 @@
 use mathlib.Core.Path.{_∙_}
+use native.Mathlib.Omega.{arith}
 use Rattle.network.specs.Places.{Sized}
 use Rattle.network.proofs.Picks.{allRows, deleted-links}
 use Rattle.network.proofs.Kept.{stands, end-valid, ends-below, taken-out}
@@ -19,14 +20,14 @@ take-out-requires : tie.Need-take-out-requires
 take-out-requires c κs =
     let s = c .before .before .before in
     let u = s .pre .1 .placed .1 in
-    (sized s .at-length, ends-below (s .args .t1) (sized s) (s .pre .0) (s .args .i) u .0, u .below)
+    (sized s .at-length, omega (arith, ends-below (s .args .t1) (sized s) (s .pre .0) (s .args .i) u), u .below)
 
 take-out-requires-2 : tie.Need-take-out-requires-2
 take-out-requires-2 c κs =
     let t = c .before .take-out in
     let s = c .before .before .before .before .before in
     let u = s .pre .1 .placed .1 in
-    (t .ensures .size ∙ sized s .at-length, ends-below (s .args .t1) (sized s) (s .pre .0) (s .args .i) u .1, u .below)
+    (t .ensures .size ∙ sized s .at-length, omega (arith, ends-below (s .args .t1) (sized s) (s .pre .0) (s .args .i) u), u .below)
 
 without-node-requires : tie.Need-without-node-requires
 without-node-requires c κs = search needs

@@ -1,5 +1,6 @@
 use Prim.Native.Nat.{_≤_, _<_}
 use mathlib.Core.Path.{_≡_, _∙_}
+use native.Mathlib.Omega.{arith}
 use lib.ListN.{getD}
 use Rattle.rounding.specs.Rounding.{S}
 use Rattle.rounding.specs.declared.Direction.{Direction}
@@ -19,8 +20,15 @@ sized c = search needs
 within : (c : tie.Start) (d : Direction) → (value d (rowAt (c .args .t1) (c .args .i)) ≤ S) × (value d (rowAt (c .args .t1) (c .args .j)) ≤ S)
 within c = values-within (c .args .t1) (sized c) (c .pre .0 .valid) (c .args .i) (c .args .j) (c .pre .1 .placed .1) (c .pre .1 .placed .2)
 
-ends : (c : tie.Start) → let n = c .args .t1 in let j = c .args .j in (getD (n .a) j 0 < 32) × (getD (n .b) j 0 < 32)
-ends c = ends-below (c .args .t1) (sized c) (c .pre .0) (c .args .j) (c .pre .1 .placed .2)
+module _ (c : tie.Start) where
+  ends-i : let n = c .args .t1 in let i = c .args .i in (getD (n .a) i 0 < 32) × (getD (n .b) i 0 < 32)
+  ends-i = ends-below (c .args .t1) (sized c) (c .pre .0) (c .args .i) (c .pre .1 .placed .1)
+
+  ends-j : let n = c .args .t1 in let j = c .args .j in (getD (n .a) j 0 < 32) × (getD (n .b) j 0 < 32)
+  ends-j = ends-below (c .args .t1) (sized c) (c .pre .0) (c .args .j) (c .pre .1 .placed .2)
+
+  below : (c .args .i < 64) × (c .args .j < 64)
+  below = (c .pre .1 .placed .1 .below, c .pre .1 .placed .2 .below)
 
 mul-series : tie.Need-mul-series
 mul-series c = search needs
@@ -103,12 +111,12 @@ element-write-self-4 c = search needs
 take-out-requires : tie.Need-take-out-requires
 take-out-requires c κs =
     let s = c .before .before .before .before .before .before .before .before .before .before .before .before .before .before .before in
-    (sized s .at-length, ends s .0, s .pre .1 .placed .2 .below)
+    (sized s .at-length, omega (arith, ends-j s), omega (arith, below s))
 
 take-out-requires-2 : tie.Need-take-out-requires-2
 take-out-requires-2 c κs =
     let s = c .before .before .before .before .before .before .before .before .before .before .before .before .before .before .before .before .before in
-    (c .before .take-out .ensures .size ∙ sized s .at-length, ends s .1, s .pre .1 .placed .2 .below)
+    (c .before .take-out .ensures .size ∙ sized s .at-length, omega (arith, ends-j s), omega (arith, below s))
 
 cast-take-out : tie.Need-cast-take-out
 cast-take-out c = search needs
@@ -116,18 +124,18 @@ cast-take-out c = search needs
 take-out-requires-3 : tie.Need-take-out-requires-3
 take-out-requires-3 c κs =
     let s = c .before .before .before .before .before .before .before .before .before .before .before .before .before .before .before .before .before .before .before in
-    (c .before .take-out2 .ensures .size ∙ c .before .before .before .take-out .ensures .size ∙ sized s .at-length, s .pre .1 .placed .0, s .pre .1 .placed .1 .below)
+    (c .before .take-out2 .ensures .size ∙ c .before .before .before .take-out .ensures .size ∙ sized s .at-length, s .pre .1 .placed .0, omega (arith, below s))
 
 put-in-requires : tie.Need-put-in-requires
 put-in-requires c κs =
     let s = c .before .before .before .before .before .before .before .before .before .before .before .before .before .before .before .before .before .before .before .before .before in
-    (c .before .take-out3 .ensures .size ∙ c .before .before .before .take-out2 .ensures .size ∙ c .before .before .before .before .before .take-out .ensures .size ∙ sized s .at-length, across-below _ _ _ (ends s) (c .before .before .before .before .before .before .before .before .before .across2 .ensures), s .pre .1 .placed .1 .below)
+    (c .before .take-out3 .ensures .size ∙ c .before .before .before .take-out2 .ensures .size ∙ c .before .before .before .before .before .take-out .ensures .size ∙ sized s .at-length, omega (arith, across-below _ _ _ (ends-i s) (c .before .before .before .before .before .before .before .before .before .before .before .before .across .ensures), across-below _ _ _ (ends-j s) (c .before .before .before .before .before .before .before .before .before .across2 .ensures)), omega (arith, below s))
 
 without-node-requires : tie.Need-without-node-requires
 without-node-requires c κs = search needs
 
 without-requires : tie.Need-without-requires
-without-requires c κs = c .before .before .before .before .before .before .before .before .before .before .before .before .before .before .before .before .before .before .before .before .before .before .before .pre .1 .placed .2 .below
+without-requires c κs = omega (arith, below (c .before .before .before .before .before .before .before .before .before .before .before .before .before .before .before .before .before .before .before .before .before .before .before))
 
 returns : tie.Need-returns
 returns c =
