@@ -84,10 +84,24 @@ without-requires : tie.Need-without-requires Inv-loop μ-loop
 without-requires c κs = omega (arith, below (c .before .before .before .before .before .before .before .before .before .before))
 
 loop-less : tie.Need-loop-less Inv-loop μ-loop
-loop-less c = let k = c .before .before .before .before .before .before .before .before .before .before .before in joined-fewer (turn k .before .args .t1) (turn k .loop .self) (turn k .loop .inv) _ _ (found k) (c .without .result) _ _ _ _ (c .without .ensures) (c .before .before .before .take-out .ensures) (c .before .take-out2 .ensures) (c .before .before .before .before .before .before .before .before .before .join .ensures) (c .before .before .before .before .before .before .before .join2 .ensures)
+loop-less c =
+    let k = c .before .before .before .before .before .before .before .before .before .before .before in
+    let two = c .before .take-out2 in
+    let one = c .before .before .before .take-out in
+    let high = c .before .before .before .before .before .before .before .join2 in
+    let low = c .before .before .before .before .before .before .before .before .before .join in
+    joined-fewer (turn k .before .args .t1) (turn k .loop .self) (turn k .loop .inv) _ _ (found k) (c .without .result) (one .last .0) (two .last .0) (low .last .0) (high .last .0)
+    (c .without .ensures) (one .ensures) (two .ensures) (low .ensures) (high .ensures)
 
 loop-again : tie.Need-loop-again Inv-loop μ-loop
-loop-again c = let k = c .before .before .before .before .before .before .before .before .before .before .before in joined-on (turn k .before .args .t1) (turn k .loop .self) (turn k .loop .inv) _ _ (found k) (c .without .result) _ _ _ _ (c .without .ensures) (c .before .before .before .take-out .ensures) (c .before .take-out2 .ensures) (c .before .before .before .before .before .before .before .before .before .join .ensures) (c .before .before .before .before .before .before .before .join2 .ensures)
+loop-again c =
+    let k = c .before .before .before .before .before .before .before .before .before .before .before in
+    let two = c .before .take-out2 in
+    let one = c .before .before .before .take-out in
+    let high = c .before .before .before .before .before .before .before .join2 in
+    let low = c .before .before .before .before .before .before .before .before .before .join in
+    joined-on (turn k .before .args .t1) (turn k .loop .self) (turn k .loop .inv) _ _ (found k) (c .without .result) (one .last .0) (two .last .0) (low .last .0) (high .last .0)
+    (c .without .ensures) (one .ensures) (two .ensures) (low .ensures) (high .ensures)
 
 enum-told : tie.Need-enum-told Inv-loop μ-loop
 enum-told c = search needs

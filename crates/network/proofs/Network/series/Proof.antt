@@ -1,13 +1,14 @@
 use Prim.Native.Nat.{_≤_, _<_}
 use mathlib.Core.Path.{_≡_, _∙_}
 use native.Mathlib.Omega.{arith}
-use lib.ListN.{getD}
-use Rattle.rounding.specs.Rounding.{S}
+use lib.ListN.{getD, set}
+use Rattle.rounding.specs.Rounding.{S, series as seriesOf}
 use Rattle.rounding.specs.declared.Direction.{Direction}
 use Rattle.rounding.specs.declared.Direction.the-variants.{Down, Up}
 use Rattle.reliability.specs.Networks.{value}
-use Rattle.reliability.specs.Rule.{inSeries}
-use Rattle.network.specs.Places.{Sized}
+use Rattle.reliability.specs.Rule.{without, across, inSeries}
+use Rattle.network.specs.declared.Network.{Network}
+use Rattle.network.specs.Places.{nodesOf, Sized}
 use Rattle.network.proofs.Picks.{all-even, row, rowAt, rows-set, values-within, joined-links}
 use Rattle.network.proofs.Kept.{stands, series-valid, ends-below, across-below, turned-over}
 use borrow.Author.Needs.{needs}
@@ -126,17 +127,6 @@ take-out-requires-3 c κs =
     let s = c .before .before .before .before .before .before .before .before .before .before .before .before .before .before .before .before .before .before .before in
     (c .before .take-out2 .ensures .size ∙ c .before .before .before .take-out .ensures .size ∙ sized s .at-length, s .pre .1 .placed .0, omega (arith, below s))
 
-put-in-requires : tie.Need-put-in-requires
-put-in-requires c κs =
-    let s = c .before .before .before .before .before .before .before .before .before .before .before .before .before .before .before .before .before .before .before .before .before in
-    (c .before .take-out3 .ensures .size ∙ c .before .before .before .take-out2 .ensures .size ∙ c .before .before .before .before .before .take-out .ensures .size ∙ sized s .at-length, omega (arith, across-below _ _ _ (ends-i s) (c .before .before .before .before .before .before .before .before .before .before .before .before .across .ensures), across-below _ _ _ (ends-j s) (c .before .before .before .before .before .before .before .before .before .across2 .ensures)), omega (arith, below s))
-
-without-node-requires : tie.Need-without-node-requires
-without-node-requires c κs = search needs
-
-without-requires : tie.Need-without-requires
-without-requires c κs = omega (arith, below (c .before .before .before .before .before .before .before .before .before .before .before .before .before .before .before .before .before .before .before .before .before .before .before))
-
 returns : tie.Need-returns
 returns c =
     let p = c .before .before .put-in in
@@ -151,12 +141,30 @@ returns c =
     let n = s .args .t1 in
     let i = s .args .i in
     let j = s .args .j in
+    let v = s .args .v in
+    let r : Network = record { alive = c .without .result; at = p .last .0; low = set (n .low) i (low .result); high = set (n .high) i (high .result); a = set (n .a) i (a .result); b = set (n .b) i (b .result); nodes = c .before .without-node .result } in
+    let first : a .result ≡ across v (rowAt n i) = a .ensures in
+    let second : b .result ≡ across v (rowAt n j) = b .ensures in
+    let lower : low .result ≡ seriesOf Down (getD (n .low) i 0) (getD (n .low) j 0) = low .ensures in
+    let upper : high .result ≡ seriesOf Up (getD (n .high) i 0) (getD (n .high) j 0) = high .ensures in
     let e = row (a .result) (b .result) (low .result) (high .result) in
-    let made : e ≡ inSeries (s .args .v) (rowAt n i) (rowAt n j) = λ t. row (a .ensures t) (b .ensures t) (low .ensures t) (high .ensures t) in
+    let made : e ≡ inSeries v (rowAt n i) (rowAt n j) = λ t. row (first t) (second t) (lower t) (upper t) in
     let written = rows-set (all-even n (sized s)) i e in
-    let links = joined-links n _ j _ (s .pre .1 .placed .2) (c .without .ensures) (sized s) i e (inSeries (s .args .v)) (s .pre .1 .placed .1) written made in
-    stands _ (λ t. record { nodes = c .before .without-node .ensures t; links = links t }) (series-valid n (s .pre .0) (s .args .v) i j (s .pre .1))
-    (turned-over n (sized s) (s .pre .0) (s .args .v) i j (s .pre .1) _ _ _ _ _ (a .ensures) _ (c .without .ensures) (one .ensures) (two .ensures) (three .ensures) (p .ensures))
+    let links = joined-links n (r .alive) j _ (s .pre .1 .placed .2) (c .without .ensures) (sized s) i e (inSeries v) (s .pre .1 .placed .1) written made in
+    let nodes : nodesOf r ≡ without v (nodesOf n) = c .before .without-node .ensures in
+    stands r (λ t. record { nodes = nodes t; links = links t }) (series-valid n (s .pre .0) v i j (s .pre .1))
+    (turned-over n (sized s) (s .pre .0) v i j (s .pre .1) (one .last .0) (two .last .0) (three .last .0) (r .at) (a .result) first {y = b .result} (r .alive) (c .without .ensures) (one .ensures) (two .ensures) (three .ensures) (p .ensures))
+
+put-in-requires : tie.Need-put-in-requires
+put-in-requires c κs =
+    let s = c .before .before .before .before .before .before .before .before .before .before .before .before .before .before .before .before .before .before .before .before .before in
+    (c .before .take-out3 .ensures .size ∙ c .before .before .before .take-out2 .ensures .size ∙ c .before .before .before .before .before .take-out .ensures .size ∙ sized s .at-length, omega (arith, across-below _ _ _ (ends-i s) (c .before .before .before .before .before .before .before .before .before .before .before .before .across .ensures), across-below _ _ _ (ends-j s) (c .before .before .before .before .before .before .before .before .before .across2 .ensures)), omega (arith, below s))
+
+without-node-requires : tie.Need-without-node-requires
+without-node-requires c κs = search needs
+
+without-requires : tie.Need-without-requires
+without-requires c κs = omega (arith, below (c .before .before .before .before .before .before .before .before .before .before .before .before .before .before .before .before .before .before .before .before .before .before .before))
 
 pub series-spec : {M : Type 1} → statement M
 series-spec =

@@ -59,7 +59,7 @@ returns c =
       links,
       built-more n r k (s .pre .1) (s .pre .2) (c .with .ensures),
       stands r (λ t. record { nodes = nodesOf n; links = links t }) valid
-          (put-into n (sized s) (s .pre .0) k (s .pre .1) (s .pre .2) (l .a) (l .b) _ _ _ (c .with .ensures) (f .ensures) (t .ensures)) .1,
+          (put-into n (sized s) (s .pre .0) k (s .pre .1) (s .pre .2) (l .a) (l .b) (c .with .result) (f .last .0) (t .last .0) (c .with .ensures) (f .ensures) (t .ensures)) .1,
     )
 
 pub with-link-spec : {M : Type 1} → statement M
