@@ -13,20 +13,20 @@ use Rattle.parts.proofs.rename.Statement.{statement}
 use Rattle.parts.proofs.rename.Tie as tie
 
 abbrev Inv-loop : tie.InvT-loop
-Inv-loop ends₀ places keep gone t₀ ends t = (t < 2 ^ 64) × (length ends ≡ 64) × (changedAt (rename keep gone) (members t) ends ≡ changedAt (rename keep gone) (members places) ends₀)
+Inv-loop ends₀ places keep gone t₀ ends t = (changedAt (rename keep gone) (members t) ends ≡ changedAt (rename keep gone) (members places) ends₀) × (length ends ≡ 64) × (t < 2 ^ 64)
 
 abbrev μ-loop : tie.MeasureT-loop
 μ-loop ends₀ places keep gone t₀ ends t = howMany (members t)
 
 loop-holds : tie.Need-loop-holds Inv-loop μ-loop
-loop-holds c = (search needs, c .pre, refl)
+loop-holds c = (refl, c .pre, search needs)
 
 lowest-requires : tie.Need-lowest-requires Inv-loop μ-loop
 lowest-requires c κs = search needs
 
 -- the lowest place left
 low : (c : tie.After-lowest Inv-loop μ-loop) → Lowest (c .before .before .loop .t) (c .lowest .result)
-low c = let l = c .before .before .loop in lowest-of (l .t) (c .lowest .result) (search needs) (l .inv .0) (c .lowest .ensures)
+low c = let l = c .before .before .loop in lowest-of (l .t) (c .lowest .result) (search needs) (l .inv .2) (c .lowest .ensures)
 
 below : (c : tie.After-lowest Inv-loop μ-loop) → c .lowest .result < 64
 below c = lowest-below (c .before .before .loop .t) (c .lowest .result) (low c)
@@ -54,16 +54,16 @@ loop-again c =
     let h = l .before .before .loop in
     let s = l .before .before .before in
     let k = l .lowest .result in (
-      search needs,
+      changed-lowest (rename (s .args .keep) (s .args .gone)) (h .t) k (c .without-lowest .result) (h .ends) (c .before .renamed .result) (low l) (c .without-lowest .ensures) (c .before .renamed .ensures) ∙ h .inv .0,
       length-set (h .ends) k _ ∙ h .inv .1,
-      changed-lowest (rename (s .args .keep) (s .args .gone)) (h .t) k (c .without-lowest .result) (h .ends) _ (low l) (c .without-lowest .ensures) (c .before .renamed .ensures) ∙ h .inv .2,
+      search needs,
     )
 
 returns : tie.Need-returns Inv-loop μ-loop
 returns c =
     let h = c .before .loop in
     let s = c .before .before in
-    sym (changed-empty (rename (s .args .keep) (s .args .gone)) (h .t) (h .ends) (omega arith)) ∙ h .inv .2
+    sym (changed-empty (rename (s .args .keep) (s .args .gone)) (h .t) (h .ends) (omega arith)) ∙ h .inv .0
 
 pub rename-spec : {M : Type 1} → statement M
 rename-spec =

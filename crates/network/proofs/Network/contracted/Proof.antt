@@ -1,7 +1,7 @@
 use mathlib.Core.Path.{_∙_}
 use native.Mathlib.Omega.{arith}
 use Rattle.network.proofs.Kept.{ends-below}
-use Rattle.network.proofs.Merging.{keep-below, gone-below, contracts}
+use Rattle.network.proofs.Merging.{contracts}
 use Rattle.network.specs.Places.{Sized}
 use borrow.Author.Needs.{needs}
 use Rattle.network.proofs.Network.contracted.Statement.{statement}
@@ -25,19 +25,21 @@ higher-requires c κs = search needs
 take-out-requires : tie.Need-take-out-requires
 take-out-requires c κs =
     let s = c .before .before .before .before .before in
-    (sized s .at-length, ends-below (s .args .t1) (sized s) (s .pre .0) (s .args .i) (s .pre .1) .0, s .pre .1 .below)
+    (sized s .at-length, omega (arith, ends-below (s .args .t1) (sized s) (s .pre .0) (s .args .i) (s .pre .1)), s .pre .1 .below)
 
 take-out-requires-2 : tie.Need-take-out-requires-2
 take-out-requires-2 c κs =
     let s = c .before .before .before .before .before .before .before in
-    (c .before .take-out .ensures .size ∙ sized s .at-length, ends-below (s .args .t1) (sized s) (s .pre .0) (s .args .i) (s .pre .1) .1, s .pre .1 .below)
+    (c .before .take-out .ensures .size ∙ sized s .at-length, omega (arith, ends-below (s .args .t1) (sized s) (s .pre .0) (s .args .i) (s .pre .1)), s .pre .1 .below)
 
 merge-requires : tie.Need-merge-requires
 merge-requires c κs =
     let s = c .before .before .before .before .before .before .before .before .before in
     let h = c .before .before .before .before .before in
+    let lower = h .before .lower .ensures in
+    let higher = h .higher .ensures in
     let e = ends-below (s .args .t1) (sized s) (s .pre .0) (s .args .i) (s .pre .1) in
-    (c .before .take-out2 .ensures .size ∙ c .before .before .before .take-out .ensures .size ∙ sized s .at-length, omega (arith, e, h .before .lower .ensures), omega (arith, e, h .higher .ensures))
+    (c .before .take-out2 .ensures .size ∙ c .before .before .before .take-out .ensures .size ∙ sized s .at-length, omega (arith, e, lower, higher), omega (arith, e, lower, higher))
 
 rename-requires : tie.Need-rename-requires
 rename-requires c κs = search needs
@@ -52,7 +54,8 @@ without-node-requires : tie.Need-without-node-requires
 without-node-requires c κs =
     let s = c .before .before .before .before .before .before .before .before .before .before .before .before .before .before in
     let e = ends-below (s .args .t1) (sized s) (s .pre .0) (s .args .i) (s .pre .1) in
-    omega (arith, e, c .before .before .before .before .before .before .before .before .before .before .higher .ensures)
+    let h = c .before .before .before .before .before .before .before .before .before .before in
+    omega (arith, e, h .before .lower .ensures, h .higher .ensures)
 
 without-requires : tie.Need-without-requires
 without-requires c κs = search needs
@@ -67,7 +70,7 @@ returns c =
     let higher = c .before .before .before .before .before .before .before .before .before .before .before .before .higher in
     let lower = c .before .before .before .before .before .before .before .before .before .before .before .before .before .lower in
     let s = c .before .before .before .before .before .before .before .before .before .before .before .before .before .before .before .before in
-    contracts (s .args .t1) (sized s) (s .pre .0) (s .args .i) (s .pre .1) (s .pre .2) (lower .result) (higher .result) (lower .ensures) (higher .ensures) (c .without .result) (c .before .without-node .result) (m .result) _ _ _ _ _
+    contracts (s .args .t1) (sized s) (s .pre .0) (s .args .i) (s .pre .1) (s .pre .2) (lower .result) (higher .result) (lower .ensures) (higher .ensures) (c .without .result) (c .before .without-node .result) (m .result) (one .last .0) (two .last .0) (m .last .0) (x .last .0) (y .last .0)
     (c .without .ensures) (c .before .without-node .ensures) (one .ensures) (two .ensures) (m .ensures .0) (m .ensures .1) (x .ensures) (y .ensures)
 
 pub contracted-spec : {M : Type 1} → statement M

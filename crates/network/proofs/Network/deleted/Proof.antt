@@ -1,4 +1,5 @@
 use mathlib.Core.Path.{_∙_}
+use native.Mathlib.Omega.{arith}
 use Rattle.network.specs.Places.{Sized}
 use Rattle.network.proofs.Kept.{ends-below, deletes}
 use borrow.Author.Needs.{needs}
@@ -17,13 +18,13 @@ element-copy-out-y c = search needs
 take-out-requires : tie.Need-take-out-requires
 take-out-requires c κs =
     let s = c .before .before .before in
-    (sized s .at-length, ends-below (s .args .t1) (sized s) (s .pre .0) (s .args .i) (s .pre .1) .0, s .pre .1 .below)
+    (sized s .at-length, omega (arith, ends-below (s .args .t1) (sized s) (s .pre .0) (s .args .i) (s .pre .1)), s .pre .1 .below)
 
 take-out-requires-2 : tie.Need-take-out-requires-2
 take-out-requires-2 c κs =
     let t = c .before .take-out in
     let s = c .before .before .before .before .before in
-    (t .ensures .size ∙ sized s .at-length, ends-below (s .args .t1) (sized s) (s .pre .0) (s .args .i) (s .pre .1) .1, s .pre .1 .below)
+    (t .ensures .size ∙ sized s .at-length, omega (arith, ends-below (s .args .t1) (sized s) (s .pre .0) (s .args .i) (s .pre .1)), s .pre .1 .below)
 
 without-requires : tie.Need-without-requires
 without-requires c κs = search needs
@@ -33,7 +34,7 @@ returns c =
     let t = c .before .take-out2 in
     let f = c .before .before .before .take-out in
     let s = c .before .before .before .before .before .before .before in
-    deletes (s .args .t1) (sized s) (s .pre .0) (s .args .i) (s .pre .1) _ _ _ (c .without .ensures) (f .ensures) (t .ensures)
+    deletes (s .args .t1) (sized s) (s .pre .0) (s .args .i) (s .pre .1) (c .without .result) (f .last .0) (t .last .0) (c .without .ensures) (f .ensures) (t .ensures)
 
 pub deleted-spec : {M : Type 1} → statement M
 deleted-spec =

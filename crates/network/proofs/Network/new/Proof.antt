@@ -1,12 +1,14 @@
-use Prim.Native.Nat.{_-_}
-use mathlib.Core.Path.{ap, _∙_}
+use Prim.Native.Nat.{ℕ, _-_}
+use mathlib.Core.Path.{_≡_, ap, _∙_}
 use native.Mathlib.Omega.{arith}
+use lib.ListN.{replicate}
+use Rattle.bits.specs.Members.{members, below}
 use Rattle.bits.proofs.Digits.{digits-zero}
 use Rattle.bits.proofs.Operations.{full-fits}
 use Rattle.reliability.proofs.Validity.{empty-valid}
 use Rattle.search.specs.Searches.{pick, from}
 use Rattle.search.proofs.Sets.{ascending-from}
-use Rattle.network.specs.Places.{Built}
+use Rattle.network.specs.Places.{rows, Built}
 use Rattle.network.proofs.Picks.{pick-first, pick-none, take-from}
 use Rattle.network.proofs.Kept.{stands, none-counted}
 use borrow.Author.Needs.{needs}
@@ -16,16 +18,18 @@ use Rattle.network.proofs.Network.new.Tie as tie
 full-requires : tie.Need-full-requires
 full-requires c κs = search needs
 
-cast-t9 : tie.Need-cast-t9
-cast-t9 c = record { fits = full-fits (c .full .result) (c .before .args .n) (search needs) (c .before .pre) (c .full .ensures) }
-
 returns : tie.Need-returns
 unfolding Built
 returns c =
     let n = c .before .args .n in
-    let nodes = ap (λ bs. pick bs (from 0 64)) (c .full .ensures) ∙ pick-first n (64 - n) (from 0 64) ∙ take-from 0 n 64 (omega arith) in
-    let links = pick-none _ in
+    let first : members (c .full .result) ≡ below n = c .full .ensures in
+    let nodes = ap (λ bs. pick bs (from 0 64)) first ∙ pick-first n (64 - n) (from 0 64) ∙ take-from 0 n 64 (omega arith) in
+    let none = replicate {A = ℕ} 64 0 in
+    let links = pick-none (rows none none none none) in
     (nodes, links, digits-zero 64, stands _ (λ t. record { nodes = nodes t; links = links t }) (empty-valid (from 0 n) (ascending-from 0 n)) none-counted .1)
+
+cast-t9 : tie.Need-cast-t9
+cast-t9 c = record { fits = full-fits (c .full .result) (c .before .args .n) (search needs) (c .before .pre) (c .full .ensures) }
 
 pub new-spec : {M : Type 1} → statement M
 new-spec = tie.close (tie.spec full-requires cast-t9 returns)

@@ -1,5 +1,7 @@
+use Prim.Native.Nat.{_<_}
 use mathlib.Core.Path.{_≡_, refl, sym, _∙_}
 use Rattle.rounding.specs.declared.Direction.the-variants.{Down, Up}
+use native.Mathlib.Omega.{arith}
 use lib.ListN.{length}
 use Rattle.search.specs.declared.Pair.the-variants.{Both}
 use Rattle.search.specs.Searches.{placesIn, beside, pairIn}
@@ -39,13 +41,16 @@ found k = sym (k .before .before .before .first-pair .ensures) ∙ k .before .i 
 both : (k : tie.After-known-told Inv-loop μ-loop) → let p = k .before .i .given .0 in Used (turn k .loop .self) (p .0) × Used (turn k .loop .self) (p .1 .0)
 both k = both-used _ (turn k .loop .self) (turn k .loop .inv) _ _ (found k)
 
+below : (k : tie.After-known-told Inv-loop μ-loop) → let p = k .before .i .given .0 in (p .0 < 64) × (p .1 .0 < 64)
+below k = (both k .0 .below, both k .1 .below)
+
 join-requires : tie.Need-join-requires Inv-loop μ-loop
 join-requires c κs =
     let k = c .before in
     let u = both k in
     let h = turn k .loop in
     let w = values-within (h .self) (h .inv .sized) (h .inv .holds .valid) _ _ (u .0) (u .1) Down in
-    (h .inv .sized .low-length, u .0 .below, u .1 .below, w .0, w .1)
+    (h .inv .sized .low-length, omega (arith, below k), omega (arith, below k), omega (arith, w), omega (arith, w))
 
 join-requires-2 : tie.Need-join-requires-2 Inv-loop μ-loop
 join-requires-2 c κs =
@@ -53,36 +58,50 @@ join-requires-2 c κs =
     let u = both k in
     let h = turn k .loop in
     let w = values-within (h .self) (h .inv .sized) (h .inv .holds .valid) _ _ (u .0) (u .1) Up in
-    (h .inv .sized .high-length, u .0 .below, u .1 .below, w .0, w .1)
+    (h .inv .sized .high-length, omega (arith, below k), omega (arith, below k), omega (arith, w), omega (arith, w))
 
 element-copy-out-x : tie.Need-element-copy-out-x Inv-loop μ-loop
-element-copy-out-x c = both (c .before .before .before .before) .1 .below
+element-copy-out-x c = omega (arith, below (c .before .before .before .before))
 
 element-copy-out-y : tie.Need-element-copy-out-y Inv-loop μ-loop
-element-copy-out-y c = both (c .before .before .before .before .before) .1 .below
+element-copy-out-y c = omega (arith, below (c .before .before .before .before .before))
 
 take-out-requires : tie.Need-take-out-requires Inv-loop μ-loop
 take-out-requires c κs =
     let k = c .before .before .before .before .before .before .before in
     let h = turn k .loop in
     let u = both k .1 in
-    (h .inv .sized .at-length, ends-below (h .self) (h .inv .sized) (h .inv .holds) _ u .0, u .below)
+    (h .inv .sized .at-length, omega (arith, ends-below (h .self) (h .inv .sized) (h .inv .holds) _ u), omega (arith, below k))
 
 take-out-requires-2 : tie.Need-take-out-requires-2 Inv-loop μ-loop
 take-out-requires-2 c κs =
     let k = c .before .before .before .before .before .before .before .before .before in
     let h = turn k .loop in
     let u = both k .1 in
-    (c .before .take-out .ensures .size ∙ h .inv .sized .at-length, ends-below (h .self) (h .inv .sized) (h .inv .holds) _ u .1, u .below)
+    (c .before .take-out .ensures .size ∙ h .inv .sized .at-length, omega (arith, ends-below (h .self) (h .inv .sized) (h .inv .holds) _ u), omega (arith, below k))
 
 without-requires : tie.Need-without-requires Inv-loop μ-loop
-without-requires c κs = both (c .before .before .before .before .before .before .before .before .before .before) .1 .below
+without-requires c κs = omega (arith, below (c .before .before .before .before .before .before .before .before .before .before))
 
 loop-less : tie.Need-loop-less Inv-loop μ-loop
-loop-less c = let k = c .before .before .before .before .before .before .before .before .before .before .before in joined-fewer (turn k .before .args .t1) (turn k .loop .self) (turn k .loop .inv) _ _ (found k) (c .without .result) _ _ _ _ (c .without .ensures) (c .before .before .before .take-out .ensures) (c .before .take-out2 .ensures) (c .before .before .before .before .before .before .before .before .before .join .ensures) (c .before .before .before .before .before .before .before .join2 .ensures)
+loop-less c =
+    let k = c .before .before .before .before .before .before .before .before .before .before .before in
+    let two = c .before .take-out2 in
+    let one = c .before .before .before .take-out in
+    let high = c .before .before .before .before .before .before .before .join2 in
+    let low = c .before .before .before .before .before .before .before .before .before .join in
+    joined-fewer (turn k .before .args .t1) (turn k .loop .self) (turn k .loop .inv) _ _ (found k) (c .without .result) (one .last .0) (two .last .0) (low .last .0) (high .last .0)
+    (c .without .ensures) (one .ensures) (two .ensures) (low .ensures) (high .ensures)
 
 loop-again : tie.Need-loop-again Inv-loop μ-loop
-loop-again c = let k = c .before .before .before .before .before .before .before .before .before .before .before in joined-on (turn k .before .args .t1) (turn k .loop .self) (turn k .loop .inv) _ _ (found k) (c .without .result) _ _ _ _ (c .without .ensures) (c .before .before .before .take-out .ensures) (c .before .take-out2 .ensures) (c .before .before .before .before .before .before .before .before .before .join .ensures) (c .before .before .before .before .before .before .before .join2 .ensures)
+loop-again c =
+    let k = c .before .before .before .before .before .before .before .before .before .before .before in
+    let two = c .before .take-out2 in
+    let one = c .before .before .before .take-out in
+    let high = c .before .before .before .before .before .before .before .join2 in
+    let low = c .before .before .before .before .before .before .before .before .before .join in
+    joined-on (turn k .before .args .t1) (turn k .loop .self) (turn k .loop .inv) _ _ (found k) (c .without .result) (one .last .0) (two .last .0) (low .last .0) (high .last .0)
+    (c .without .ensures) (one .ensures) (two .ensures) (low .ensures) (high .ensures)
 
 enum-told : tie.Need-enum-told Inv-loop μ-loop
 enum-told c = search needs

@@ -1,12 +1,14 @@
 use Prim.Native.Nat.{_≤_, _<_}
 use mathlib.Core.Path.{_≡_, _∙_}
-use lib.ListN.{getD}
-use Rattle.rounding.specs.Rounding.{S}
+use native.Mathlib.Omega.{arith}
+use lib.ListN.{getD, set}
+use Rattle.rounding.specs.Rounding.{S, series as seriesOf}
 use Rattle.rounding.specs.declared.Direction.{Direction}
 use Rattle.rounding.specs.declared.Direction.the-variants.{Down, Up}
 use Rattle.reliability.specs.Networks.{value}
-use Rattle.reliability.specs.Rule.{inSeries}
-use Rattle.network.specs.Places.{Sized}
+use Rattle.reliability.specs.Rule.{without, across, inSeries}
+use Rattle.network.specs.declared.Network.{Network}
+use Rattle.network.specs.Places.{nodesOf, Sized}
 use Rattle.network.proofs.Picks.{all-even, row, rowAt, rows-set, values-within, joined-links}
 use Rattle.network.proofs.Kept.{stands, series-valid, ends-below, across-below, turned-over}
 use borrow.Author.Needs.{needs}
@@ -19,8 +21,15 @@ sized c = search needs
 within : (c : tie.Start) (d : Direction) → (value d (rowAt (c .args .t1) (c .args .i)) ≤ S) × (value d (rowAt (c .args .t1) (c .args .j)) ≤ S)
 within c = values-within (c .args .t1) (sized c) (c .pre .0 .valid) (c .args .i) (c .args .j) (c .pre .1 .placed .1) (c .pre .1 .placed .2)
 
-ends : (c : tie.Start) → let n = c .args .t1 in let j = c .args .j in (getD (n .a) j 0 < 32) × (getD (n .b) j 0 < 32)
-ends c = ends-below (c .args .t1) (sized c) (c .pre .0) (c .args .j) (c .pre .1 .placed .2)
+module _ (c : tie.Start) where
+  ends-i : let n = c .args .t1 in let i = c .args .i in (getD (n .a) i 0 < 32) × (getD (n .b) i 0 < 32)
+  ends-i = ends-below (c .args .t1) (sized c) (c .pre .0) (c .args .i) (c .pre .1 .placed .1)
+
+  ends-j : let n = c .args .t1 in let j = c .args .j in (getD (n .a) j 0 < 32) × (getD (n .b) j 0 < 32)
+  ends-j = ends-below (c .args .t1) (sized c) (c .pre .0) (c .args .j) (c .pre .1 .placed .2)
+
+  below : (c .args .i < 64) × (c .args .j < 64)
+  below = (c .pre .1 .placed .1 .below, c .pre .1 .placed .2 .below)
 
 mul-series : tie.Need-mul-series
 mul-series c = search needs
@@ -103,12 +112,12 @@ element-write-self-4 c = search needs
 take-out-requires : tie.Need-take-out-requires
 take-out-requires c κs =
     let s = c .before .before .before .before .before .before .before .before .before .before .before .before .before .before .before in
-    (sized s .at-length, ends s .0, s .pre .1 .placed .2 .below)
+    (sized s .at-length, omega (arith, ends-j s), omega (arith, below s))
 
 take-out-requires-2 : tie.Need-take-out-requires-2
 take-out-requires-2 c κs =
     let s = c .before .before .before .before .before .before .before .before .before .before .before .before .before .before .before .before .before in
-    (c .before .take-out .ensures .size ∙ sized s .at-length, ends s .1, s .pre .1 .placed .2 .below)
+    (c .before .take-out .ensures .size ∙ sized s .at-length, omega (arith, ends-j s), omega (arith, below s))
 
 cast-take-out : tie.Need-cast-take-out
 cast-take-out c = search needs
@@ -116,18 +125,7 @@ cast-take-out c = search needs
 take-out-requires-3 : tie.Need-take-out-requires-3
 take-out-requires-3 c κs =
     let s = c .before .before .before .before .before .before .before .before .before .before .before .before .before .before .before .before .before .before .before in
-    (c .before .take-out2 .ensures .size ∙ c .before .before .before .take-out .ensures .size ∙ sized s .at-length, s .pre .1 .placed .0, s .pre .1 .placed .1 .below)
-
-put-in-requires : tie.Need-put-in-requires
-put-in-requires c κs =
-    let s = c .before .before .before .before .before .before .before .before .before .before .before .before .before .before .before .before .before .before .before .before .before in
-    (c .before .take-out3 .ensures .size ∙ c .before .before .before .take-out2 .ensures .size ∙ c .before .before .before .before .before .take-out .ensures .size ∙ sized s .at-length, across-below _ _ _ (ends s) (c .before .before .before .before .before .before .before .before .before .across2 .ensures), s .pre .1 .placed .1 .below)
-
-without-node-requires : tie.Need-without-node-requires
-without-node-requires c κs = search needs
-
-without-requires : tie.Need-without-requires
-without-requires c κs = c .before .before .before .before .before .before .before .before .before .before .before .before .before .before .before .before .before .before .before .before .before .before .before .pre .1 .placed .2 .below
+    (c .before .take-out2 .ensures .size ∙ c .before .before .before .take-out .ensures .size ∙ sized s .at-length, s .pre .1 .placed .0, omega (arith, below s))
 
 returns : tie.Need-returns
 returns c =
@@ -143,12 +141,30 @@ returns c =
     let n = s .args .t1 in
     let i = s .args .i in
     let j = s .args .j in
+    let v = s .args .v in
+    let r : Network = record { alive = c .without .result; at = p .last .0; low = set (n .low) i (low .result); high = set (n .high) i (high .result); a = set (n .a) i (a .result); b = set (n .b) i (b .result); nodes = c .before .without-node .result } in
+    let first : a .result ≡ across v (rowAt n i) = a .ensures in
+    let second : b .result ≡ across v (rowAt n j) = b .ensures in
+    let lower : low .result ≡ seriesOf Down (getD (n .low) i 0) (getD (n .low) j 0) = low .ensures in
+    let upper : high .result ≡ seriesOf Up (getD (n .high) i 0) (getD (n .high) j 0) = high .ensures in
     let e = row (a .result) (b .result) (low .result) (high .result) in
-    let made : e ≡ inSeries (s .args .v) (rowAt n i) (rowAt n j) = λ t. row (a .ensures t) (b .ensures t) (low .ensures t) (high .ensures t) in
+    let made : e ≡ inSeries v (rowAt n i) (rowAt n j) = λ t. row (first t) (second t) (lower t) (upper t) in
     let written = rows-set (all-even n (sized s)) i e in
-    let links = joined-links n _ j _ (s .pre .1 .placed .2) (c .without .ensures) (sized s) i e (inSeries (s .args .v)) (s .pre .1 .placed .1) written made in
-    stands _ (λ t. record { nodes = c .before .without-node .ensures t; links = links t }) (series-valid n (s .pre .0) (s .args .v) i j (s .pre .1))
-    (turned-over n (sized s) (s .pre .0) (s .args .v) i j (s .pre .1) _ _ _ _ _ (a .ensures) _ (c .without .ensures) (one .ensures) (two .ensures) (three .ensures) (p .ensures))
+    let links = joined-links n (r .alive) j _ (s .pre .1 .placed .2) (c .without .ensures) (sized s) i e (inSeries v) (s .pre .1 .placed .1) written made in
+    let nodes : nodesOf r ≡ without v (nodesOf n) = c .before .without-node .ensures in
+    stands r (λ t. record { nodes = nodes t; links = links t }) (series-valid n (s .pre .0) v i j (s .pre .1))
+    (turned-over n (sized s) (s .pre .0) v i j (s .pre .1) (one .last .0) (two .last .0) (three .last .0) (r .at) (a .result) first {y = b .result} (r .alive) (c .without .ensures) (one .ensures) (two .ensures) (three .ensures) (p .ensures))
+
+put-in-requires : tie.Need-put-in-requires
+put-in-requires c κs =
+    let s = c .before .before .before .before .before .before .before .before .before .before .before .before .before .before .before .before .before .before .before .before .before in
+    (c .before .take-out3 .ensures .size ∙ c .before .before .before .take-out2 .ensures .size ∙ c .before .before .before .before .before .take-out .ensures .size ∙ sized s .at-length, omega (arith, across-below _ _ _ (ends-i s) (c .before .before .before .before .before .before .before .before .before .before .before .before .across .ensures), across-below _ _ _ (ends-j s) (c .before .before .before .before .before .before .before .before .before .across2 .ensures)), omega (arith, below s))
+
+without-node-requires : tie.Need-without-node-requires
+without-node-requires c κs = search needs
+
+without-requires : tie.Need-without-requires
+without-requires c κs = omega (arith, below (c .before .before .before .before .before .before .before .before .before .before .before .before .before .before .before .before .before .before .before .before .before .before .before))
 
 pub series-spec : {M : Type 1} → statement M
 series-spec =

@@ -1,5 +1,6 @@
 use mathlib.Core.Path.{refl, _∙_}
 use lib.ListN.{set}
+use native.Mathlib.Omega.{arith}
 use Rattle.reliability.proofs.Validity.{appended-valid}
 use Rattle.network.specs.declared.Network.{Network}
 use Rattle.network.specs.Places.{nodesOf, networkOf, Sized}
@@ -33,12 +34,12 @@ element-write-self-4 c = search needs
 put-in-requires : tie.Need-put-in-requires
 put-in-requires c κs =
     let s = c .before in
-    (sized s .at-length, proper-below (s .args .t1) (sized s) (s .args .l) (s .pre .3) .0, s .pre .2)
+    (sized s .at-length, omega (arith, proper-below (s .args .t1) (sized s) (s .args .l) (s .pre .3)), s .pre .2)
 
 put-in-requires-2 : tie.Need-put-in-requires-2
 put-in-requires-2 c κs =
     let s = c .before .before .before in
-    (c .before .put-in .ensures .size ∙ sized s .at-length, proper-below (s .args .t1) (sized s) (s .args .l) (s .pre .3) .1, s .pre .2)
+    (c .before .put-in .ensures .size ∙ sized s .at-length, omega (arith, proper-below (s .args .t1) (sized s) (s .args .l) (s .pre .3)), s .pre .2)
 
 with-requires : tie.Need-with-requires
 with-requires c κs = search needs
@@ -58,7 +59,7 @@ returns c =
       links,
       built-more n r k (s .pre .1) (s .pre .2) (c .with .ensures),
       stands r (λ t. record { nodes = nodesOf n; links = links t }) valid
-          (put-into n (sized s) (s .pre .0) k (s .pre .1) (s .pre .2) (l .a) (l .b) _ _ _ (c .with .ensures) (f .ensures) (t .ensures)) .1,
+          (put-into n (sized s) (s .pre .0) k (s .pre .1) (s .pre .2) (l .a) (l .b) (c .with .result) (f .last .0) (t .last .0) (c .with .ensures) (f .ensures) (t .ensures)) .1,
     )
 
 pub with-link-spec : {M : Type 1} → statement M
