@@ -15,7 +15,7 @@ use Rattle.reliability.specs.declared.Link.{Link}
 use Rattle.reliability.specs.declared.Figure.{Figure}
 use Rattle.reliability.specs.declared.Step.{Step}
 use Rattle.reliability.specs.declared.Step.the-variants.{OneNode, End, Series, Split}
-use Rattle.reliability.specs.Networks.{Network as Graph, Valid, ends, connected, pieces, piecesOf}
+use Rattle.reliability.specs.Networks.{Network as Graph, ends, connected, pieces, piecesOf}
 use Rattle.reliability.specs.Rule.{isLoop, firstAt, lowest, endOf, seriesOf, chosen, when, _otherwise_, next, leaves, removed, deleted, joined, inSeries, contracted, bounded, blend, figure}
 use Rattle.reliability.specs.Simple.{Loopless, Plain, Simple, unpaired}
 use Rattle.reliability.proofs.Validity.{proper-at, deleted-valid}

@@ -20,7 +20,7 @@ use Rattle.search.proofs.Answers.{first, pair-members}
 use Rattle.parts.specs.Tallies.{Written}
 use Rattle.network.specs.declared.Network.{Network}
 use Rattle.network.specs.Places.{rows, networkOf, linksOf, nodesOf, indexOf, Used, Invariant, Sized}
-use Rattle.network.proofs.Picks.{all-even, row, rowAt, rows-values, joined-links}
+use Rattle.network.proofs.Picks.{all-even, row, rows-values, joined-links}
 use Rattle.network.proofs.Rules.{paired, loop-rule, pair-rule}
 use Rattle.network.proofs.Kept.{stands, taken-out}
 

@@ -15,7 +15,7 @@ use Rattle.parts.specs.Tallies.{Written, Merged, changedAt}
 use Rattle.parts.proofs.Laws.{merged, renamed-touching}
 use Rattle.network.specs.declared.Network.{Network}
 use Rattle.network.specs.Places.{rows, networkOf, linksOf, nodesOf, indexOf, linkOf, Used, Invariant, Sized}
-use Rattle.network.proofs.Picks.{Even, none, more, all-even, row, rowAt, allRows, link-at, deleted-links}
+use Rattle.network.proofs.Picks.{Even, none, more, all-even, row, allRows, link-at, deleted-links}
 use Rattle.network.proofs.Kept.{stands, sound-valid, ends-below, taken-out}
 
 -- the ends of the links at gone renamed: those of all links are

@@ -1,12 +1,11 @@
 -- The links and nodes at the places in use, as the definitions have them.
-use Prim.Native.Nat.{ℕ, zero, suc, _+_, _-_, _^_, _≤_, _<_, suc-le-suc, zero-le}
+use Prim.Native.Nat.{ℕ, zero, suc, _+_, _-_, _≤_, _<_, suc-le-suc, zero-le}
 use mathlib.Core.Path.{_≡_, refl, sym, ap, ap₂, subst, _∙_}
-use mathlib.Core.List.{List, [], _∷_, _++_, map, List·Memᴰ, List·Memᴰ·head, List·Memᴰ·tail}
+use mathlib.Core.List.{List, [], _∷_, _++_, map}
 use mathlib.Core.Bool.{Bool, true, false, true≢false}
 use native.Mathlib.Nat.{not-suc-le-zero, le-of-suc-le-suc}
 use native.Mathlib.Numerals.{add-one}
 use native.Mathlib.Omega.{arith}
-use borrow.Author.Tests.{eq-eqb, ne-eqb}
 use lib.ListN.{length, getD, set, take, replicate, length-append, length-replicate, getD-replicate, List·getD-append}
 use lib.Seq.{set-getD, take-suc-set}
 use Rattle.bits.specs.Members.{members}
@@ -15,11 +14,10 @@ use Rattle.rounding.specs.Rounding.{S}
 use Rattle.rounding.specs.declared.Direction.{Direction}
 use Rattle.reliability.specs.declared.Link.{Link}
 use Rattle.reliability.specs.Networks.{Proper, Valid, linkAt, value}
-use Rattle.reliability.specs.Rule.{deleteAt, without}
+use Rattle.reliability.specs.Rule.{deleteAt}
 use Rattle.reliability.proofs.Validity.{proper-at}
 use Rattle.network.specs.declared.Network.{Network}
-use Rattle.search.specs.Searches.{pick, from, nodesIn}
-use Rattle.search.proofs.Sets.{from-mem}
+use Rattle.search.specs.Searches.{pick, from}
 use Rattle.network.specs.Places.{rank, rows, linksOf, nodesOf, networkOf, Used, indexOf, Built, Sized}
 
 -- ---- what stands at the places that are set

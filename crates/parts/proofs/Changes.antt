@@ -7,7 +7,6 @@ use native.Mathlib.Omega.{arith}
 use lib.Dec.{eqb}
 use lib.ListN.{length, getD, set, length-set}
 use lib.Seq.{lt-length-set, getD-set-same, getD-set-other}
-use borrow.Author.Tests.{eq-eqb, ne-eqb}
 use Rattle.bits.specs.Members.{members, firstOf, howMany, either}
 use Rattle.bits.proofs.Digits.{length-digits, digits-empty}
 use Rattle.bits.proofs.Places.{getD-zipWith}

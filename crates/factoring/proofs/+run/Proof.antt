@@ -13,7 +13,7 @@ use Rattle.reliability.specs.Rule.{leaves, deleted, removed, joined, inSeries, 
 use Rattle.reliability.specs.Simple.{Plain}
 use Rattle.reliability.proofs.Unrolled.{figure-settled, figure-scaled, figure-limit, figure-branches}
 use Rattle.network.specs.declared.Network.{Network}
-use Rattle.network.specs.Places.{linksOf, networkOf, indexOf, linkOf, Used, Invariant, Sized, ranked, Fitting, assembled}
+use Rattle.network.specs.Places.{linksOf, networkOf, indexOf, linkOf, Invariant, Sized, ranked, Fitting, assembled}
 use Rattle.network.proofs.Ends.{ended}
 use Rattle.network.proofs.Kept.{known, ends-below}
 use Rattle.steps.specs.declared.Next.{Next}

@@ -5,7 +5,7 @@ use native.Mathlib.Omega.{arith}
 use lib.ListN.{length}
 use Rattle.search.specs.declared.Pair.the-variants.{Both}
 use Rattle.search.specs.Searches.{placesIn, beside, pairIn}
-use Rattle.network.specs.Places.{linksOf, Used, Sized}
+use Rattle.network.specs.Places.{linksOf, Used}
 use Rattle.network.proofs.Picks.{values-within}
 use Rattle.network.proofs.Ends.{bounded}
 use Rattle.network.proofs.Kept.{ends-below}
