@@ -8,7 +8,7 @@ use native.Mathlib.Omega.{arith}
 use lib.ListN.{length, getD, set}
 use Rattle.reliability.specs.declared.Link.{Link}
 use Rattle.reliability.specs.Networks.{Network, Valid, Ends, ends, linkAt, Path, here, forth, back}
-use Rattle.reliability.specs.Rule.{across, rename, renamed, deleteAt, without, deleted, removed, joined, inParallel, inSeries, contracted}
+use Rattle.reliability.specs.Rule.{across, rename, renamed, deleteAt, without, deleted, removed, joined, inSeries, contracted}
 use Rattle.reliability.specs.Simple.{Connected, sideBySide}
 use Rattle.reliability.proofs.Lists.{by-eqb, length-delete, getD-delete, delete-set, set-mem-new, set-mem-other, mem-other}
 use Rattle.reliability.proofs.Connection.{join, turn, connected-means}
