@@ -1,0 +1,9 @@
+use mathlib.Core.Path.{refl}
+use Rattle.network.proofs.assembled.Statement.{statement}
+use Rattle.network.proofs.assembled.Tie as tie
+
+returns : tie.Need-returns
+returns c = refl
+
+pub assembled-spec : {M : Type 1} → statement M
+assembled-spec = tie.close (tie.spec returns)
