@@ -153,10 +153,10 @@ impl Network {
         requires { ⌜ Invariant self × Fitting self (Step.End v i) ⌝ }
         ensures { λ r. ⌜ (networkOf r ≡ removed v (deleted (indexOf self i) (networkOf self))) × Invariant r ⌝ }
     {
-        let x = self.a[i];
-        let y = self.b[i];
-        parts::take_out(&mut self.at, x, i);
-        parts::take_out(&mut self.at, y, i);
+        let one = self.a[i];
+        let other = self.b[i];
+        parts::take_out(&mut self.at, one, i);
+        parts::take_out(&mut self.at, other, i);
         let others = parts::without_node(self.nodes, v);
         let alive = bits::without(self.alive, i);
         self.nodes = others;
@@ -195,12 +195,12 @@ impl Network {
         requires { ⌜ Invariant self × Used self i × (isLoop (linkOf self i) ≡ false) ⌝ }
         ensures { λ r. ⌜ (networkOf r ≡ contracted (linkOf self i) (deleted (indexOf self i) (networkOf self))) × Invariant r ⌝ }
     {
-        let x = self.a[i];
-        let y = self.b[i];
-        let keep = parts::lower(x, y);
-        let gone = parts::higher(x, y);
-        parts::take_out(&mut self.at, x, i);
-        parts::take_out(&mut self.at, y, i);
+        let first = self.a[i];
+        let second = self.b[i];
+        let keep = parts::lower(first, second);
+        let gone = parts::higher(first, second);
+        parts::take_out(&mut self.at, first, i);
+        parts::take_out(&mut self.at, second, i);
         let moved = parts::merge(&mut self.at, keep, gone);
         parts::rename(&mut self.a, moved, keep, gone);
         parts::rename(&mut self.b, moved, keep, gone);

@@ -10,11 +10,11 @@ use Rattle.network.proofs.Network.contracted.Tie as tie
 sized : (c : tie.Start) → Sized (c .args .t1)
 sized c = search needs
 
-element-copy-out-x : tie.Need-element-copy-out-x
-element-copy-out-x c = search needs
+element-copy-out-first : tie.Need-element-copy-out-first
+element-copy-out-first c = search needs
 
-element-copy-out-y : tie.Need-element-copy-out-y
-element-copy-out-y c = search needs
+element-copy-out-second : tie.Need-element-copy-out-second
+element-copy-out-second c = search needs
 
 lower-requires : tie.Need-lower-requires
 lower-requires c κs = search needs
@@ -77,8 +77,8 @@ pub contracted-spec : {M : Type 1} → statement M
 contracted-spec =
     tie.close
     (tie.spec
-    element-copy-out-x
-    element-copy-out-y
+    element-copy-out-first
+    element-copy-out-second
     lower-requires
     higher-requires
     take-out-requires

@@ -12,11 +12,11 @@ use Rattle.network.proofs.Network.end.Tie as tie
 sized : (c : tie.Start) → Sized (c .args .t1)
 sized c = search needs
 
-element-copy-out-x : tie.Need-element-copy-out-x
-element-copy-out-x c = search needs
+element-copy-out-one : tie.Need-element-copy-out-one
+element-copy-out-one c = search needs
 
-element-copy-out-y : tie.Need-element-copy-out-y
-element-copy-out-y c = search needs
+element-copy-out-other : tie.Need-element-copy-out-other
+element-copy-out-other c = search needs
 
 take-out-requires : tie.Need-take-out-requires
 take-out-requires c κs =
@@ -55,8 +55,8 @@ pub end-spec : {M : Type 1} → statement M
 end-spec =
     tie.close
     (tie.spec
-    element-copy-out-x
-    element-copy-out-y
+    element-copy-out-one
+    element-copy-out-other
     take-out-requires
     take-out-requires-2
     without-node-requires
