@@ -28,8 +28,8 @@
    several threads at once; each needs a stack of 512 KiB for it.
 
    How long a call takes goes by its steps. At the limit of 1,000,000 the mesh of 32 nodes and 64 links (plans/mesh.plan)
-   took figure about 1 second on one core of x86-64, and importance and difference, which work two networks, up to 2. The
-   slowest of 400 random plans took about twice as long a step. A call cannot be stopped; a smaller limit ends it sooner. */
+   took figure about 0.4 seconds on one core of x86-64, and importance and difference, which work two networks, up to 0.8.
+   The slowest of 400 random plans took about as long a step. A call cannot be stopped; a smaller limit ends it sooner. */
 
 #ifndef PLANDESK_H
 #define PLANDESK_H
