@@ -9,7 +9,7 @@ ghost use Prim.Native.Nat.{_+_, _-_, _^_, _≤_, _<_};
 ghost use lib.IntN.{pos, _-ℤ_};
 ghost use Rattle.rounding.specs.Rounding.{S, factor};
 ghost use Rattle.reliability.specs.Networks.{value};
-ghost use Rattle.reliability.specs.Rule.{bounded, times, blend, unfinished};
+ghost use Rattle.reliability.specs.Rule.{bounded, times, mixed, more, unfinished};
 ghost use Rattle.reliability.specs.Comparisons.{lessened, minus};
 ghost use Rattle.figures.specs.Sides.{sides};
 
@@ -44,14 +44,14 @@ pub fn times_factor(e: Link, k: Link, f: Figure) -> Figure
     times(low, high, f)
 }
 
-// The figure of a split on link e, from those of its two branches.
-pub fn blend(e: Link, s: Figure, t: Figure) -> Figure
-    requires { ⌜ (e .low ≤ S) × (e .high ≤ S) × (s .low ≤ S) × (s .high ≤ S) × (t .low ≤ S) × (t .high ≤ S) × (s .steps + t .steps + 1 < 2 ^ 32) ⌝ }
-    ensures { λ r. ⌜ r ≡ blend e s t ⌝ }
+// The figure of a split on link e, from those of its two branches, and the steps that it takes itself.
+pub fn mixed(e: Link, s: Figure, t: Figure, own: u32) -> Figure
+    requires { ⌜ (e .low ≤ S) × (e .high ≤ S) × (s .low ≤ S) × (s .high ≤ S) × (t .low ≤ S) × (t .high ≤ S) × (own + (s .steps + t .steps) < 2 ^ 32) ⌝ }
+    ensures { λ r. ⌜ r ≡ more own (mixed e s t) ⌝ }
 {
     let low = rounding::split(Direction::Down, e.low, s.low, t.low);
     let high = rounding::split(Direction::Up, e.high, s.high, t.high);
-    let steps = s.steps + t.steps + 1;
+    let steps = own + (s.steps + t.steps);
     let finished = both(s.finished, t.finished);
     Figure {
         low,

@@ -1,8 +1,8 @@
 -- What holds of every tree: steps, the mark of a finished figure, ranges, and nesting by the limit.
 use Prim.Native.Nat.{ℕ, zero, suc, _+_, _-_, _≤_, min, zero-le}
-use mathlib.Core.Path.{_≡_, refl, sym}
-use mathlib.Core.Bool.{Bool, true, false, _&&_}
-use native.Mathlib.Nat.{le-of-suc-le-suc, not-suc-le-zero}
+use mathlib.Core.Path.{_≡_, refl, sym, ap, _∙_}
+use mathlib.Core.Bool.{Bool, true, false, _&&_, false≢true, and-eq-true-iff}
+use native.Mathlib.Nat.{le-of-suc-le-suc, not-suc-le-zero, suc-add}
 use native.Mathlib.Omega.{arith}
 use lib.Dec.{leb, leb·zero, leb·suc-zero, leb·suc-suc}
 use borrow.Author.Tests.{le-leb, lt-leb, leb-true, leb-false}
@@ -11,8 +11,10 @@ use Rattle.rounding.specs.declared.Direction.{Direction}
 use Rattle.rounding.specs.declared.Direction.the-variants.{Down, Up}
 use Rattle.rounding.proofs.Laws.{Bounds, bounds-refl}
 use Rattle.rounding.proofs.Operations.{product-monotone, product-range, split-monotone, split-range}
+use Rattle.reliability.specs.declared.Link.{Link}
+use Rattle.reliability.specs.declared.Figure.{Figure}
 use Rattle.reliability.specs.Networks.{value}
-use Rattle.reliability.specs.Rule.{side, bounded, unfinished, Tree, ready, multiplied, fork, run, splits}
+use Rattle.reliability.specs.Rule.{side, bounded, times, mixed, stepped, inTurn, unfinished, Tree, ready, multiplied, fork, taken, run, splits}
 
 -- what is monotone in two figures keeps their bounds
 bounds-map : (d : Direction) (f : ℕ → ℕ → ℕ) → ((x x′ y y′ : ℕ) → x ≤ x′ → y ≤ y′ → f x y ≤ f x′ y′)
@@ -42,6 +44,7 @@ steps (ready k) l = omega arith
 steps (multiplied k t) l = steps t l
 steps (fork i e s b) zero = omega arith
 steps (fork i e s b) (suc l) = omega (arith, steps s l, steps b (l - run s l .steps))
+steps (taken i e s b) l = omega (arith, steps s l, steps b (l - run s l .steps))
 
 pub finished : (t : Tree) (l : ℕ) → run t l .finished ≡ leb (splits t) l
 unfolding run splits
@@ -50,6 +53,7 @@ finished (multiplied k t) l = finished t l
 finished (fork i e s b) zero = sym (leb·suc-zero (splits s + splits b))
 finished (fork i e s b) (suc l) =
     rw (finished s l, finished b (l - run s l .steps), steps s l, leb·suc-suc) (enough (splits s) (splits b) l)
+finished (taken i e s b) l = rw (finished s l, finished b (l - run s l .steps), steps s l) (enough (splits s) (splits b) l)
 
 -- ---- ranges and nesting
 
@@ -58,6 +62,11 @@ abbrev pub Ranged : Tree → Type 0
 Ranged (ready k) = (d : Direction) → k d ≤ S
 Ranged (multiplied k t) = ((d : Direction) → k d ≤ S) × Ranged t
 Ranged (fork i e s b) = ((d : Direction) → value d e ≤ S) × Ranged s × Ranged b
+Ranged (taken i e s b) = ((d : Direction) → value d e ≤ S) × Ranged s × Ranged b
+
+pub side-stepped : (d : Direction) (f : Figure) → side d (stepped f) ≡ side d f
+side-stepped Down f = refl
+side-stepped Up f = refl
 
 -- 0 to S encloses all
 widest : (d : Direction) (x : ℕ) → x ≤ S → Bounds d (side d unfinished) x
@@ -71,6 +80,8 @@ range (multiplied k t) h d l = rw side-bounded (product-range d (k d) (side d (r
 range (fork i e s b) h Down zero = zero-le
 range (fork i e s b) h Up zero = omega arith
 range (fork i e s b) h d (suc l) =
+    rw (side-stepped, side-bounded) (split-range d (value d e) (side d (run s l)) (side d (run b (l - run s l .steps))) (h .0 d) (range s (h .1) d l) (range b (h .2) d (l - run s l .steps)))
+range (taken i e s b) h d l =
     rw side-bounded (split-range d (value d e) (side d (run s l)) (side d (run b (l - run s l .steps))) (h .0 d) (range s (h .1) d l) (range b (h .2) d (l - run s l .steps)))
 
 -- with a larger limit each figure lies on the inner side
@@ -82,6 +93,38 @@ nested (multiplied k t) h d l l′ i =
 nested (fork j e s b) h d zero l′ i = widest d (side d (run (fork j e s b) l′)) (range (fork j e s b) h d l′)
 nested (fork j e s b) h d (suc l) zero i = absurd (not-suc-le-zero i)
 nested (fork j e s b) h d (suc l) (suc l′) i =
-    simp side-bounded
+    simp (side-stepped, side-bounded)
     (bounds-map d (split d (value d e)) (λ x x′ y y′. split-monotone d (value d e)) (nested s (h .1) d l l′ (le-of-suc-le-suc i))
     (nested b (h .2) d (l - run s l .steps) (l′ - run s l′ .steps) (omega (arith, steps s l, steps s l′))))
+nested (taken j e s b) h d l l′ i =
+    simp side-bounded
+    (bounds-map d (split d (value d e)) (λ x x′ y y′. split-monotone d (value d e)) (nested s (h .1) d l l′ i)
+    (nested b (h .2) d (l - run s l .steps) (l′ - run s l′ .steps) (omega (arith, steps s l, steps s l′))))
+
+-- ---- limits that are enough, and limits that are not
+
+-- an unfinished run takes all steps
+pub all-taken : (t : Tree) (l : ℕ) → run t l .finished ≡ false → run t l .steps ≡ l
+all-taken t l h = omega (arith, steps t l, leb-false (splits t) l (sym (finished t l) ∙ h))
+
+-- what a run leaves of its limit, of a larger one
+pub spare : (t : Tree) (l k : ℕ) → l + k - run t l .steps ≡ l - run t l .steps + k
+spare t l k = omega (arith, steps t l)
+
+in-turn-stays : (e : Link) (s b : Tree) (l k : ℕ) → inTurn e (run s) (run b) l .finished ≡ true
+    → (run s l .finished ≡ true → run s (l + k) ≡ run s l)
+    → (run b (l - run s l .steps) .finished ≡ true → run b (l - run s l .steps + k) ≡ run b (l - run s l .steps))
+    → inTurn e (run s) (run b) (l + k) ≡ inTurn e (run s) (run b) l
+in-turn-stays e s b l k h sound broken =
+    let done = and-eq-true-iff (run s l .finished) (run b (l - run s l .steps) .finished) .0 h in
+    ap (λ (f : Figure). mixed e f (run b (l + k - f .steps))) (sound (done .0))
+    ∙ ap (λ n. mixed e (run s l) (run b n)) (spare s l k) ∙ ap (mixed e (run s l)) (broken (done .1))
+
+-- a finished run stays as it is
+pub stays : (t : Tree) (l k : ℕ) → run t l .finished ≡ true → run t (l + k) ≡ run t l
+unfolding run
+stays (ready c) l k h = refl
+stays (multiplied c t) l k h = ap (times c) (stays t l k h)
+stays (fork i e s b) zero k h = absurd (false≢true h)
+stays (fork i e s b) (suc l) k h = rw suc-add (ap stepped (in-turn-stays e s b l k h (stays s l k) (stays b (l - run s l .steps) k)))
+stays (taken i e s b) l k h = in-turn-stays e s b l k h (stays s l k) (stays b (l - run s l .steps) k)

@@ -166,11 +166,12 @@ stepAt i g = leaves g (nextAt i g)
 -- ---- the work of a network
 
 -- the work of a network as a tree: its figures, a factor and the work that it multiplies,
--- or a split on a link, at its place, and the work of the sound and of the broken branch
+-- or a split on a link, at its place, and the work of the sound and of the broken branch; a split is still to take, or it is taken
 pub data Tree : Type 0 where
   ready : (Direction → ℕ) → Tree
   multiplied : (Direction → ℕ) → Tree → Tree
   fork : ℕ → Link → Tree → Tree → Tree
+  taken : ℕ → Link → Tree → Tree → Tree
 
 -- the tree of what is left, each part of it grown by `grow`; a split is on the link at place i
 unfoldable pub grown : {N : Type 0} → (N → Tree) → ℕ → Remainder N → Tree
@@ -203,21 +204,36 @@ abbrev pub times : (Direction → ℕ) → Figure → Figure
 times k f = bounded (λ d. product d (k d) (side d f)) (f .steps) (f .finished)
 
 -- the figure of a split on link e, from the figures of the sound and the broken branch
+abbrev pub mixed : Link → Figure → Figure → Figure
+mixed e s t = bounded (λ d. split d (value d e) (side d s) (side d t)) (s .steps + t .steps) (s .finished && t .finished)
+
+-- n steps more
+abbrev pub more : ℕ → Figure → Figure
+more n f = record { low = f .low; high = f .high; steps = n + f .steps; finished = f .finished }
+
+-- one step more
+abbrev pub stepped : Figure → Figure
+stepped f = record { low = f .low; high = f .high; steps = suc (f .steps); finished = f .finished }
+
+-- a split takes one step
 abbrev pub blend : Link → Figure → Figure → Figure
-blend e s t = bounded (λ d. split d (value d e) (side d s) (side d t)) (suc (s .steps + t .steps)) (s .finished && t .finished)
+blend e s t = stepped (mixed e s t)
 
 -- no step is left for a split
 abbrev pub unfinished : Figure
 unfinished = record { low = 0; high = S; steps = 0; finished = false }
 
 -- sound first, the broken branch with what sound leaves
+abbrev pub inTurn : Link → (ℕ → Figure) → (ℕ → Figure) → ℕ → Figure
+inTurn e sound broken limit = let s = sound limit in mixed e s (broken (limit - s .steps))
+
+-- a split that is taken takes no step any more
 unfoldable pub run : Tree → ℕ → Figure
 run (ready k) limit = bounded k 0 true
 run (multiplied k t) limit = times k (run t limit)
 run (fork i e sound broken) zero = unfinished
-run (fork i e sound broken) (suc limit) =
-    let s = run sound limit in
-    blend e s (run broken (limit - s .steps))
+run (fork i e sound broken) (suc limit) = stepped (inTurn e (run sound) (run broken) limit)
+run (taken i e sound broken) limit = inTurn e (run sound) (run broken) limit
 
 abbrev pub figure : Network → ℕ → Figure
 figure g limit = run (tree g) limit
@@ -228,6 +244,7 @@ unfoldable pub splits : Tree → ℕ
 splits (ready k) = 0
 splits (multiplied k t) = splits t
 splits (fork i e sound broken) = suc (splits sound + splits broken)
+splits (taken i e sound broken) = splits sound + splits broken
 
 abbrev pub needed : Network → ℕ
 needed g = splits (tree g)

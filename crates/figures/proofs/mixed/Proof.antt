@@ -1,10 +1,9 @@
-use Prim.Native.Nat.{_+_}
-use native.Mathlib.Numerals.{add-one}
-use Rattle.reliability.specs.Rule.{blend}
+use mathlib.Core.Path.{refl}
+use Rattle.reliability.specs.Rule.{mixed, more}
 use Rattle.figures.proofs.Laws.{figure-is}
 use borrow.Author.Needs.{needs}
-use Rattle.figures.proofs.blend.Statement.{statement}
-use Rattle.figures.proofs.blend.Tie as tie
+use Rattle.figures.proofs.mixed.Statement.{statement}
+use Rattle.figures.proofs.mixed.Tie as tie
 
 split-requires : tie.Need-split-requires
 split-requires c κs = search needs
@@ -24,9 +23,9 @@ both-requires c κs = search needs
 returns : tie.Need-returns
 returns c =
     let a = c .before .before .before .before .before .args in
-    figure-is (blend (a .e) (a .s) (a .t)) (c .before .before .before .before .split .ensures) (c .before .before .before .split2 .ensures) (add-one (a .s .steps + a .t .steps)) (c .both .ensures)
+    figure-is (more (a .own) (mixed (a .e) (a .s) (a .t))) (c .before .before .before .before .split .ensures) (c .before .before .before .split2 .ensures) refl (c .both .ensures)
 
-pub blend-spec : {M : Type 1} → statement M
-blend-spec =
+pub mixed-spec : {M : Type 1} → statement M
+mixed-spec =
     tie.close
     (tie.spec split-requires split-requires-2 add-steps add-steps-2 both-requires returns)
