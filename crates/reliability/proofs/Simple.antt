@@ -15,17 +15,17 @@ use Rattle.reliability.specs.declared.Link.{Link}
 use Rattle.reliability.specs.declared.Step.{Step}
 use Rattle.reliability.specs.declared.Step.the-variants.{OneNode, Parallel, Series, Split}
 use Rattle.reliability.specs.Networks.{Network, Valid, Ends, ends, linkAt, connected, lastOfEach, pieces, piecesOf}
-use Rattle.reliability.specs.Rule.{isLoop, deleteAt, firstAt, firstPair, lowest, endOf, seriesOf, when, _otherwise_, nextAt, chosen, next, leaves, rest, deleted, removed, joined, contracted, inParallel, inSeries, rename, renamed, across, bounded, figure}
-use Rattle.reliability.specs.Simple.{Loopless, Pairless, Connected, Plain, Simple, sideBySide, joinedPairs, unpaired}
+use Rattle.reliability.specs.Rule.{isLoop, deleteAt, firstAt, firstPair, lowest, endOf, seriesOf, when, _otherwise_, nextAt, chosen, next, leaves, rest, deleted, removed, joined, contracted, inParallel, inSeries, rename, renamed, across, ready, tree}
+use Rattle.reliability.specs.Simple.{Loopless, Pairless, Connected, Plain, Simple, sideBySide, joinedPairs, unpaired, unlooped, withoutLoops}
 use Rattle.reliability.proofs.Lists.{by-eqb, length-delete, mem-delete, getD-mem, getD-delete}
 use Rattle.reliability.proofs.Pieces.{connected-pieces, first-parted}
-use Rattle.reliability.proofs.Searches.{Answers, nth, none-found, Pair, Distinct, first-pair, no-pair, distinct-delete}
+use Rattle.reliability.proofs.Searches.{Answers, Holds, Fails, first-at, nth, none-found, Pair, Distinct, first-pair, no-pair, distinct-delete}
 use Rattle.reliability.proofs.States.{Joins}
 use Rattle.reliability.proofs.Validity.{mem-joined, larger-smaller, proper-at, deleted-valid, joined-valid, removed-valid, contracted-valid, parallel-proper}
 use Rattle.reliability.proofs.Steps.{AtPair, AtEnd, AtSeries, AtSplit, joins-alike, at-pair, inTurn, next-by, step-by-connection}
 use Rattle.reliability.proofs.Remainders.{left-by}
-use Rattle.reliability.proofs.Unrolled.{Below, figure-rest, below-rest}
-use Rattle.reliability.proofs.Separate.{separate-figure}
+use Rattle.reliability.proofs.Unrolled.{Below, tree-rest, below-rest}
+use Rattle.reliability.proofs.Separate.{separate-tree}
 use Rattle.reliability.proofs.Paths.{pair-connected, end-connected, series-connected, contracted-connected}
 
 -- ---- connected
@@ -46,8 +46,8 @@ connected-pieces-few g = go (g .nodes)
     go (v ∷ vs) = connected-pieces t v vs ∙ same-test (pieces (v ∷ vs) t) (omega (arith, first-parted t v vs))
 
 -- a network that is not connected: its figure is 0, without a split
-pub apart-figure : (g : Network) → Valid g → connected (g .nodes) (map ends (g .links)) ≡ false → (limit : ℕ) → figure g limit ≡ bounded (λ d. 0) 0 true
-apart-figure g valid apart = separate-figure g valid (leb-false (piecesOf g) 1 (sym (connected-pieces-few g) ∙ apart))
+pub apart-tree : (g : Network) → Valid g → connected (g .nodes) (map ends (g .links)) ≡ false → tree g ≡ ready (λ d. 0)
+apart-tree g valid apart = separate-tree g valid (leb-false (piecesOf g) 1 (sym (connected-pieces-few g) ∙ apart))
 
 -- ---- which step fits
 
@@ -60,8 +60,8 @@ module _ (g : Network) (valid : Valid g) (i : ℕ) (first : firstAt isLoop (g .l
   pub loop-below : Below g (deleted i g)
   loop-below = below-rest g valid (deleted i g) loop-leaves
 
-  pub loop-figure : (limit : ℕ) → figure (deleted i g) limit ≡ figure g limit
-  loop-figure limit = figure-rest g valid limit (deleted i g) loop-leaves
+  pub loop-tree : tree g ≡ tree (deleted i g)
+  loop-tree = tree-rest g valid (deleted i g) loop-leaves
 
 -- no step but 2, 5, 6 and 7 fits a simple network
 pub simple-next : (g : Network) → Simple g → (k : ℕ) → nextAt k g
@@ -253,15 +253,15 @@ module _ (g : Network) (plain : Plain g) (i j : ℕ) (pair : firstPair (g .links
   first-place : i < length (g .links)
   first-place = let at = pair-at g i j pair in omega arith
 
-  unlooped : isLoop (linkAt g i) ≡ false
-  unlooped = no-loop g (plain .loopless) (linkAt g i) (getD-mem (g .links) _ first-place)
+  not-a-loop : isLoop (linkAt g i) ≡ false
+  not-a-loop = no-loop g (plain .loopless) (linkAt g i) (getD-mem (g .links) _ first-place)
 
   pub pair-plain : Plain (sideBySide i j g)
   pair-plain =
       let at = pair-at g i j pair in
       record {
         valid = pair-valid g (plain .valid) i j pair;
-        loopless = joined-loopless g (plain .loopless) i j (inParallel (linkAt g i) (linkAt g j)) (at .order) unlooped;
+        loopless = joined-loopless g (plain .loopless) i j (inParallel (linkAt g i) (linkAt g j)) (at .order) not-a-loop;
         connected = pair-connected g i j at (plain .connected);
       }
 
@@ -269,18 +269,61 @@ module _ (g : Network) (plain : Plain g) (i j : ℕ) (pair : firstPair (g .links
   pair-next : next g ≡ Parallel i j
   pair-next =
       let p = proper-at g (plain .valid) i first-place in
-      let two = two-nodes (g .nodes) (p .a-node) (p .b-node) (eqb-false (linkAt g i .a) (linkAt g i .b) unlooped) in
+      let two = two-nodes (g .nodes) (p .a-node) (p .b-node) (eqb-false (linkAt g i .a) (linkAt g i .b) not-a-loop) in
       step-by-connection (chosen g) g ∙ rw (plain .loopless, lt-leb (length (g .nodes)) 1 two, plain .connected, pair)
 
-  pub pair-figure : (limit : ℕ) → figure (sideBySide i j g) limit ≡ figure g limit
-  pair-figure limit = figure-rest g (plain .valid) limit (sideBySide i j g) (ap (leaves g) pair-next ∙ pair-leaves g i j)
+  pub pair-tree : tree g ≡ tree (sideBySide i j g)
+  pair-tree = tree-rest g (plain .valid) (sideBySide i j g) (ap (leaves g) pair-next ∙ pair-leaves g i j)
 
 pub unpaired-simple : (g : Network) → Plain g → Simple (unpaired g)
 unpaired-simple = by-pairs (λ g. Plain g → Simple (unpaired g))
     (λ g pairless plain. subst Simple (sym (unpaired-none g pairless)) (record { plain = plain; pairless = pairless }))
     (λ g i j pair later plain. subst Simple (sym (unpaired-here g i j pair)) (later (pair-plain g plain i j pair)))
 
-pub unpaired-figure : (g : Network) → Plain g → (limit : ℕ) → figure (unpaired g) limit ≡ figure g limit
-unpaired-figure = by-pairs (λ g. Plain g → (limit : ℕ) → figure (unpaired g) limit ≡ figure g limit)
-    (λ g pairless plain limit. ap (λ h. figure h limit) (unpaired-none g pairless))
-    (λ g i j pair later plain limit. ap (λ h. figure h limit) (unpaired-here g i j pair) ∙ later (pair-plain g plain i j pair) limit ∙ pair-figure g plain i j pair limit)
+pub unpaired-tree : (g : Network) → Plain g → tree g ≡ tree (unpaired g)
+unpaired-tree = by-pairs (λ g. Plain g → tree g ≡ tree (unpaired g))
+    (λ g pairless plain. ap tree (sym (unpaired-none g pairless)))
+    (λ g i j pair later plain. pair-tree g plain i j pair ∙ later (pair-plain g plain i j pair) ∙ ap tree (sym (unpaired-here g i j pair)))
+
+-- ---- without loops
+
+-- by whether a link is a loop
+by-loop : (P : List Link → Type 0) (e : Link) (es : List Link) (b : Bool) → isLoop e ≡ b → P (elim b [ true ↦ unlooped es | false ↦ e ∷ unlooped es ]) → P (unlooped (e ∷ es))
+unfolding unlooped
+by-loop P e es b h = subst (λ (t : Bool). P (elim t [ true ↦ unlooped es | false ↦ e ∷ unlooped es ])) (sym h)
+
+unlooped-none : (es : List Link) → ((e : Link) → List·Memᴰ e es → isLoop e ≡ false) → unlooped es ≡ es
+unfolding unlooped
+unlooped-none [] h = refl
+unlooped-none (e ∷ es) h = by-loop (λ r. r ≡ e ∷ es) e es false (h e (List·Memᴰ·head refl)) (ap (λ r. e ∷ r) (unlooped-none es (λ f m. h f (List·Memᴰ·tail m))))
+
+unlooped-delete : (es : List Link) (i : ℕ) → isLoop (nth es i) ≡ true → i < length es → unlooped (deleteAt i es) ≡ unlooped es
+unfolding unlooped deleteAt
+unlooped-delete [] i h k = refl
+unlooped-delete (e ∷ es) zero h k = by-loop (λ r. unlooped es ≡ r) e es true h refl
+unlooped-delete (e ∷ es) (suc i) h k =
+    let later = unlooped-delete es i h (le-of-suc-le-suc k) in
+    ap (λ r. elim (isLoop e) as (λ x. List Link) [ true ↦ r | false ↦ e ∷ r ]) later
+
+pub loops-gone : (g : Network) → Loopless g → g ≡ withoutLoops g
+loops-gone g h = λ i. record { nodes = g .nodes; links = sym (unlooped-none (g .links) (none-found isLoop (g .links) .0 h)) i }
+
+pub loop-gone : (g : Network) (i : ℕ) → firstAt isLoop (g .links) ≡ some i → withoutLoops (deleted i g) ≡ withoutLoops g
+loop-gone g i h =
+    let at = subst (Answers (Holds isLoop (g .links)) (Fails isLoop (g .links))) h (first-at isLoop (g .links)) in
+    λ k. record { nodes = g .nodes; links = unlooped-delete (g .links) i (at .test) (at .place) k }
+
+-- it is worked alike
+unlooped-by : (g : Network) → Valid g → ((h : Network) → Below g h → tree h ≡ tree (withoutLoops h)) → tree g ≡ tree (withoutLoops g)
+unlooped-by g valid fewer = go (firstAt isLoop (g .links)) refl
+  where
+    go : (loop : Option ℕ) → firstAt isLoop (g .links) ≡ loop → tree g ≡ tree (withoutLoops g)
+    go none h = ap tree (loops-gone g h)
+    go (some i) h = loop-tree g valid i h ∙ fewer (deleted i g) (loop-below g valid i h) ∙ ap tree (loop-gone g i h)
+
+unlooped-links : (m : ℕ) (g : Network) → Valid g → length (g .links) ≤ m → tree g ≡ tree (withoutLoops g)
+unlooped-links zero g valid few = unlooped-by g valid (λ h b. let k = b .fewer in absurd (omega arith))
+unlooped-links (suc m) g valid few = unlooped-by g valid (λ h b. let k = b .fewer in unlooped-links m h (b .valid) (omega arith))
+
+pub unlooped-tree : (g : Network) → Valid g → tree g ≡ tree (withoutLoops g)
+unlooped-tree g valid = unlooped-links (length (g .links)) g valid (le-refl (length (g .links)))

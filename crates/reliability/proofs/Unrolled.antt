@@ -1,4 +1,4 @@
--- The figure by what the step that fits leaves, and what is known of it.
+-- The work by what the step that fits leaves, and what is known of its figure.
 use Prim.Native.Nat.{ℕ, zero, suc, _-_, _≤_, _<_}
 use mathlib.Core.Path.{_≡_, refl, sym, ap, ap₂, _∙_}
 use mathlib.Core.Bool.{true}
@@ -54,29 +54,21 @@ module _ (g : Network) (valid : Valid g) where
   by-step : (r : Remainder Network) → leaves g (next g) ≡ r → tree g ≡ grown tree (chosen g) r
   by-step r e = unrolled Valid view stepAt lawful chosen first-link g valid ∙ ap (grown tree (chosen g)) e
 
-  pub figure-settled : (limit k : ℕ) → leaves g (next g) ≡ settled k → bounded (λ d. k) 0 true ≡ figure g limit
-  unfolding grown run
-  figure-settled limit k e = sym (ap (λ t. run t limit) (by-step (settled k) e))
-
-  pub figure-rest : (limit : ℕ) (h : Network) → leaves g (next g) ≡ rest h → figure h limit ≡ figure g limit
+  pub tree-settled : (k : ℕ) → leaves g (next g) ≡ settled k → tree g ≡ ready (λ d. k)
   unfolding grown
-  figure-rest limit h e = sym (ap (λ t. run t limit) (by-step (rest h) e))
+  tree-settled k e = by-step (settled k) e
 
-  pub figure-scaled : (limit : ℕ) (k : Direction → ℕ) (h : Network) → leaves g (next g) ≡ scaled k h → times k (figure h limit) ≡ figure g limit
-  unfolding grown run
-  figure-scaled limit k h e = sym (ap (λ t. run t limit) (by-step (scaled k h) e))
+  pub tree-rest : (h : Network) → leaves g (next g) ≡ rest h → tree g ≡ tree h
+  unfolding grown
+  tree-rest h e = by-step (rest h) e
 
-  pub figure-limit : (e : Link) (s b : Network) → leaves g (next g) ≡ branches e s b → unfinished ≡ figure g 0
-  unfolding grown run
-  figure-limit e s b h = sym (ap (λ t. run t 0) (by-step (branches e s b) h))
+  pub tree-scaled : (k : Direction → ℕ) (h : Network) → leaves g (next g) ≡ scaled k h → tree g ≡ multiplied k (tree h)
+  unfolding grown
+  tree-scaled k h e = by-step (scaled k h) e
 
-  pub figure-branches : (limit : ℕ) (e : Link) (s b : Network) → leaves g (next g) ≡ branches e s b → 0 < limit
-      → blend e (figure s (limit - 1)) (figure b (limit - 1 - figure s (limit - 1) .steps)) ≡ figure g limit
-  unfolding grown run
-  figure-branches zero e s b h pos = absurd (not-suc-le-zero pos)
-  figure-branches (suc l) e s b h pos =
-      let less : suc l - 1 ≡ l = omega arith in
-      ap (λ n. blend e (figure s n) (figure b (n - figure s n .steps))) less ∙ sym (ap (λ t. run t (suc l)) (by-step (branches e s b) h))
+  pub tree-branches : (e : Link) (s b : Network) → leaves g (next g) ≡ branches e s b → tree g ≡ fork (chosen g) e (tree s) (tree b)
+  unfolding grown
+  tree-branches e s b h = by-step (branches e s b) h
 
   -- what is left
   remains : Leaves (Below g) (leaves g (next g))

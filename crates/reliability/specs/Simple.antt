@@ -1,10 +1,11 @@
--- Networks without loops and pairs, and step 4 as often as it fits.
+-- Networks without loops and pairs, and steps 1 and 4 as often as they fit.
 use Prim.Native.Nat.{ℕ, zero, suc}
 use mathlib.Core.Path.{_≡_}
-use mathlib.Core.List.{map}
-use mathlib.Core.Bool.{true}
+use mathlib.Core.List.{List, [], _∷_, map}
+use mathlib.Core.Bool.{true, false}
 use mathlib.Core.Option.{some, none}
 use lib.ListN.{length}
+use Rattle.reliability.specs.declared.Link.{Link}
 use Rattle.reliability.specs.Networks.{Network, Valid, linkAt, ends, connected}
 use Rattle.reliability.specs.Rule.{isLoop, firstAt, firstPair, joined, inParallel}
 
@@ -43,3 +44,12 @@ joinedPairs (suc k) g = elim (firstPair (g .links)) [ some ij ↦ joinedPairs k 
 -- as often as it fits: each time there is a link less
 abbrev pub unpaired : Network → Network
 unpaired g = joinedPairs (length (g .links)) g
+
+-- the links that are no loops
+unfoldable pub unlooped : List Link → List Link
+unlooped [] = []
+unlooped (e ∷ es) = elim (isLoop e) [ true ↦ unlooped es | false ↦ e ∷ unlooped es ]
+
+-- step 1 as often as it fits
+abbrev pub withoutLoops : Network → Network
+withoutLoops g = record { nodes = g .nodes; links = unlooped (g .links) }
