@@ -1,8 +1,12 @@
 // The searches on a network: its pieces, and which step of the written rule fits.
 use network::Network;
+use search::Found;
 ghost use mathlib.Core.Path.{_≡_};
+ghost use Prim.Native.Nat.{_<_};
+ghost use Rattle.bits.specs.Members.{members};
+ghost use Rattle.reliability.specs.Simple.{withoutLoops};
 ghost use Rattle.reliability.specs.Networks.{piecesOf};
-ghost use Rattle.network.specs.Places.{networkOf, Invariant, Fitting, assembled};
+ghost use Rattle.network.specs.Places.{rank, networkOf, Invariant, Fitting, assembled};
 ghost use Rattle.steps.specs.Simple.{Workable, stepOf};
 
 // The step that fits a simple network: one node is left, an end, two links in series, or a split.
@@ -11,6 +15,25 @@ pub enum Next {
     End(usize, usize),
     Series(usize, usize, usize),
     Split(usize),
+}
+
+// The place of link i among the links left.
+pub fn place(alive: u64, i: usize) -> u32
+    requires { ⌜ i < 64 ⌝ }
+    ensures { λ r. ⌜ r ≡ rank i (members alive) ⌝ }
+{
+    bits::count(bits::meet(alive, bits::full(i as u64)))
+}
+
+// The network without its loops: step 1 as often as it fits.
+pub fn without_loops(net: Network) -> Network
+    requires { ⌜ Invariant net ⌝ }
+    ensures { λ r. ⌜ (networkOf r ≡ withoutLoops (networkOf net)) × Invariant r ⌝ }
+{
+    if let Found::At(i) = search::first_loop(net.alive, &net.a, &net.b) {
+        return without_loops(net.deleted(i));
+    }
+    net
 }
 
 // How many pieces the links leave the nodes in.
@@ -38,10 +61,10 @@ pub fn step<'r>(
     if search::at_most_one(all) {
         return Next::OneNode;
     }
-    if let search::Found::At(v) = search::lowest_with(1, all, at) {
+    if let Found::At(v) = search::lowest_with(1, all, at) {
         return Next::End(v, bits::lowest(at[v]));
     }
-    if let search::Found::At(v) = search::lowest_with(2, all, at) {
+    if let Found::At(v) = search::lowest_with(2, all, at) {
         let s = at[v];
         return Next::Series(v, bits::lowest(s), bits::lowest(bits::without_lowest(s)));
     }

@@ -1,4 +1,4 @@
--- What is known of links, figures and branches where a step is worked.
+-- What is known of links and branches where a step is worked on a network by value.
 use Prim.Native.Nat.{ℕ, _-_, _≤_, _<_}
 use mathlib.Core.Path.{_≡_, sym, ap, ap₂, _∙_, subst}
 use mathlib.Core.List.{List, map}
@@ -12,15 +12,14 @@ use Rattle.rounding.specs.Rounding.{S}
 use Rattle.rounding.specs.declared.Direction.the-variants.{Down, Up}
 use Rattle.bits.specs.Members.{members, howMany}
 use Rattle.reliability.specs.declared.Link.{Link}
-use Rattle.reliability.specs.declared.Figure.{Figure}
 use Rattle.reliability.specs.declared.Step.{Step}
 use Rattle.reliability.specs.declared.Step.the-variants.{OneNode, End, Series, Split}
 use Rattle.reliability.specs.Networks.{Network as Graph, ends, connected, pieces, piecesOf}
-use Rattle.reliability.specs.Rule.{isLoop, firstAt, lowest, endOf, seriesOf, chosen, when, _otherwise_, next, leaves, removed, deleted, joined, inSeries, contracted, bounded, blend, figure}
+use Rattle.reliability.specs.Rule.{isLoop, firstAt, lowest, endOf, seriesOf, chosen, when, _otherwise_, next, leaves, removed, deleted, joined, inSeries, contracted, ready, tree}
 use Rattle.reliability.specs.Simple.{Loopless, Plain, Simple, unpaired}
 use Rattle.reliability.proofs.Validity.{proper-at, deleted-valid}
-use Rattle.reliability.proofs.Unrolled.{Below, figure-settled, below-scaled, below-sound, below-broken, figure-range, figure-steps}
-use Rattle.reliability.proofs.Simple.{simple-next, connected-pieces-few, apart-figure, unpaired-simple, unpaired-figure, unpaired-fewer, end-simple, series-plain, contracted-plain, deleted-simple}
+use Rattle.reliability.proofs.Unrolled.{Below, tree-settled, below-scaled, below-sound, below-broken}
+use Rattle.reliability.proofs.Simple.{simple-next, connected-pieces-few, apart-tree, unpaired-simple, unpaired-tree, unpaired-fewer, end-simple, series-plain, contracted-plain, deleted-simple}
 use Rattle.search.specs.declared.Found.the-variants.{At, Nothing}
 use Rattle.search.specs.Searches.{placesIn, endsIn, found, loops}
 use Rattle.search.proofs.Sets.{has-place, mem-has}
@@ -60,23 +59,6 @@ module _ (n : Network) (holds : Invariant n) where
       let p = proper-at (networkOf n) (holds .valid) (indexOf n i) (index-within n sized i u) in
       subst (λ (f : Link). Within (f .low) (f .high)) (sym is) (p .range Down, p .range Up)
 
-  module _ (limit : ℕ) (f : Figure) (is : f ≡ figure (networkOf n) limit) where
-    pub figure-within : Within (f .low) (f .high)
-    figure-within =
-        subst (λ (k : Figure). Within (k .low) (k .high)) (sym is) (figure-range Down (networkOf n) limit (holds .valid), figure-range Up (networkOf n) limit (holds .valid))
-
-    pub steps-within : f .steps ≤ limit
-    steps-within = subst (λ (k : Figure). k .steps ≤ limit) (sym is) (figure-steps (networkOf n) limit (holds .valid))
-
-pub pair-eq : {A : Type 0} {a b c d : A} → a ≡ c → b ≡ d → _≡_ {A = A × A} (a, b) (c, d)
-pair-eq p q = λ i. (p i, q i)
-
-pub blended : (e e′ : Link) (s t : Figure) (g h : Graph) (l : ℕ) → e ≡ e′ → s ≡ figure g l → t ≡ figure h (l - s .steps)
-    → blend e s t ≡ blend e′ (figure g l) (figure h (l - figure g l .steps))
-blended e e′ s t g h l p q r =
-    ap₂ (λ (k : Link) (f : Figure). blend k f t) p q
-    ∙ ap (blend e′ (figure g l)) (r ∙ ap (λ (f : Figure). figure h (l - f .steps)) q)
-
 -- a step fits the same network
 pub moved-fits : {n r : Network} {s : Step} → n ≡ r → Fitting n s → Fitting r s
 moved-fits {s = s} e f = subst (λ (n : Network). Fitting n s) e f
@@ -97,8 +79,8 @@ module _ (n : Network) (sized : Sized n) where
 pub plain-by : (n : Network) → Invariant n → Loopless (networkOf n) → piecesOf (networkOf n) ≤ 1 → Plain (networkOf n)
 plain-by n holds no-loop few = record { valid = holds .valid; loopless = no-loop; connected = connected-pieces-few (networkOf n) ∙ le-leb (piecesOf (networkOf n)) 1 few }
 
-pub pieces-apart : (n : Network) → Invariant n → 1 < piecesOf (networkOf n) → (l : ℕ) → bounded (λ d. 0) 0 true ≡ figure (networkOf n) l
-pieces-apart n holds many l = sym (apart-figure (networkOf n) (holds .valid) (connected-pieces-few (networkOf n) ∙ lt-leb (piecesOf (networkOf n)) 1 many) l)
+pub pieces-apart : (n : Network) → Invariant n → 1 < piecesOf (networkOf n) → tree (networkOf n) ≡ ready (λ d. 0)
+pieces-apart n holds many = apart-tree (networkOf n) (holds .valid) (connected-pieces-few (networkOf n) ∙ lt-leb (piecesOf (networkOf n)) 1 many)
 
 -- ---- what each step leaves, by value
 
@@ -114,8 +96,8 @@ module _ {h : Graph} (plain : Plain h) (r q : Network) (is : networkOf r ≡ h) 
   pub unpaired-work : Sized q → Invariant q → Workable q
   unpaired-work sized holds = record { sized = sized; holds = holds; simple = subst Simple (sym stood) (unpaired-simple h plain) }
 
-  pub unpaired-same : (l : ℕ) → figure (networkOf q) l ≡ figure h l
-  unpaired-same l = ap (λ (k : Graph). figure k l) stood ∙ unpaired-figure h plain l
+  pub unpaired-same : tree h ≡ tree (networkOf q)
+  unpaired-same = unpaired-tree h plain ∙ ap tree (sym stood)
 
   pub unpaired-less : (g : Graph) → Below g h → length (linksOf q) < length (g .links)
   unpaired-less g b = omega (arith, ap (λ (k : Graph). length (k .links)) stood, unpaired-fewer h, b .fewer)
@@ -142,14 +124,14 @@ module _ (n : Network) (work : Workable n) where
 
     -- one node is left
     pub last-end : (others : ℕ) → members others ≡ set (members (n .nodes)) v false → leb (howMany (members others)) 1 ≡ true
-        → (l : ℕ) → bounded (λ d. S) 0 true ≡ figure (removed v (deleted (indexOf n i) g)) l
+        → tree (removed v (deleted (indexOf n i) g)) ≡ ready (λ d. S)
     unfolding leaves ranked
-    last-end others cleared few l =
+    last-end others cleared few =
         let h = removed v (deleted (indexOf n i) g) in
         let simple = end-simple g (work .simple) v (indexOf n i) (known n (work .holds) (End v i) f) in
         let one : leb (length (h .nodes)) 1 ≡ true = ap (λ (k : ℕ). leb k 1) (ap length (sym (nodes-cleared others (n .nodes) v cleared)) ∙ length-places others) ∙ few in
         let fits : next h ≡ OneNode = simple-next h simple (chosen h) ∙ ap (λ (b : Bool). when b OneNode otherwise lowest endOf (h .links) (h .nodes) otherwise lowest seriesOf (h .links) (h .nodes) otherwise Split (chosen h)) one in
-        figure-settled h (simple .plain .valid) l S (ap (leaves h) fits)
+        tree-settled h (simple .plain .valid) S (ap (leaves h) fits)
 
   module _ (v i j : ℕ) (f : Fitting n (Series v i j)) where
     pub series-left : Plain (removed v (joined (indexOf n i) (indexOf n j) (inSeries v (linkOf n i) (linkOf n j)) g))
@@ -202,8 +184,8 @@ module _ (n : Network) (work : Workable n) where
             connected-pieces-few broken
             ∙ ap (λ (x : ℕ). leb x 1) (sym (ap piecesOf (broken-is .0)) ∙ ap (pieces (nodesOf r)) (links-ends r broken-sized) ∙ sym count) ∙ h
 
-        pub broken-apart : 1 < k → (l : ℕ) → bounded (λ d. 0) 0 true ≡ figure broken l
-        broken-apart h l = sym (apart-figure broken (deleted-valid g (work .holds .valid) (indexOf n i)) (counted false (lt-leb k 1 h)) l)
+        pub broken-apart : 1 < k → tree broken ≡ ready (λ d. 0)
+        broken-apart h = apart-tree broken (deleted-valid g (work .holds .valid) (indexOf n i)) (counted false (lt-leb k 1 h))
 
         pub broken-work : k ≤ 1 → Workable r
         broken-work h = record { sized = broken-sized; holds = broken-is .1; simple = subst Simple (sym (broken-is .0)) (deleted-simple g (work .simple) (indexOf n i) (counted true (le-leb k 1 h))) }
