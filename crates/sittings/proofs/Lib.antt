@@ -1,1 +1,3 @@
 pub mod Sittings
+pub mod Own
+pub mod Asides
