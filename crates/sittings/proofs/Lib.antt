@@ -1,1 +1,6 @@
-
+pub mod Sittings
+pub mod Own
+pub mod Asides
+pub mod Bounds
+pub mod Rows
+pub mod Totals
