@@ -14,7 +14,7 @@ use Rattle.reliability.specs.declared.Link.{Link}
 use Rattle.reliability.specs.declared.Step.{Step}
 use Rattle.reliability.specs.declared.Step.the-variants.{OneNode, Disconnected, Loop, Parallel, End, Series, Split}
 use Rattle.reliability.specs.Networks.{Network, Ascending, Valid, ends, linkAt, label, every, connected, piecesOf}
-use Rattle.reliability.specs.Rule.{isLoop, touches, alike, firstAt, firstPair, lowest, endOf, seriesOf, when, _otherwise_, nextAt, chosen, next, deleteAt, across}
+use Rattle.reliability.specs.Rule.{isLoop, touches, alike, firstAt, firstPair, places, lowest, endOf, seriesOf, when, _otherwise_, nextAt, chosen, next, deleteAt, across}
 use Rattle.reliability.proofs.Lists.{or-true, getD-mem}
 use Rattle.reliability.proofs.Pieces.{one-piece}
 use Rattle.reliability.proofs.Lawful.{View, Place}
@@ -224,3 +224,64 @@ first-link g here = here
 
 pub fits : (g : Network) → Valid g → Fits g (next g)
 fits g valid = fits-at g valid (chosen g) (first-link g)
+
+-- ---- the place of a split
+
+-- the place of a split, or c
+abbrev splitAt : ℕ → Step → ℕ
+splitAt c OneNode = c
+splitAt c Disconnected = c
+splitAt c (Loop i) = c
+splitAt c (Parallel i j) = c
+splitAt c (End v i) = c
+splitAt c (Series v i j) = c
+splitAt c (Split i) = i
+
+-- no other step is a split
+abbrev Other : ℕ → Option Step → Type 0
+Other c o = Answers (λ (s : Step). splitAt c s ≡ c) (Unit {0}) o
+
+other-first : (c : ℕ) (o : Option Step) (s : Step) → Other c o → splitAt c s ≡ c → splitAt c (o otherwise s) ≡ c
+other-first c (some t) s h k = h
+other-first c none s h k = k
+
+other-map : (c : ℕ) {A : Type 0} (f : A → Step) → ((a : A) → splitAt c (f a) ≡ c) → (o : Option A) → Other c (Option·map f o)
+other-map c f h (some a) = h a
+other-map c f h none = tt
+
+other-when : (c : ℕ) (b : Bool) (s : Step) → splitAt c s ≡ c → Other c (when b s)
+other-when c true s h = h
+other-when c false s h = tt
+
+other-lowest : (c : ℕ) (rule : ℕ → List ℕ → Option Step) → ((v : ℕ) (is : List ℕ) → Other c (rule v is)) → (es : List Link) (vs : List ℕ) → Other c (lowest rule es vs)
+unfolding lowest
+other-lowest c rule h es [] = tt
+other-lowest c rule h es (v ∷ vs) = go (rule v (places (touches v) es)) (h v (places (touches v) es)) (other-lowest c rule h es vs)
+  where
+    go : (o : Option Step) → Other c o → Other c (lowest rule es vs) → Other c (elim o [ some s ↦ some s | none ↦ lowest rule es vs ])
+    go (some s) k l = k
+    go none k l = l
+
+end-other : (c v : ℕ) (is : List ℕ) → Other c (endOf v is)
+end-other c v [] = tt
+end-other c v (i ∷ []) = refl
+end-other c v (i ∷ (j ∷ r)) = tt
+
+series-other : (c v : ℕ) (is : List ℕ) → Other c (seriesOf v is)
+series-other c v [] = tt
+series-other c v (i ∷ []) = tt
+series-other c v (i ∷ (j ∷ [])) = refl
+series-other c v (i ∷ (j ∷ (k ∷ r))) = tt
+
+-- step 7 splits at the chosen place
+pub split-chosen : (g : Network) (j : ℕ) → next g ≡ Split j → j ≡ chosen g
+unfolding nextAt
+split-chosen g j e =
+    let c = chosen g in
+    sym (ap (splitAt c) e)
+    ∙ other-first c (Option·map Loop (firstAt isLoop (g .links))) _ (other-map c Loop (λ i. refl) (firstAt isLoop (g .links)))
+    (other-first c (when (leb (length (g .nodes)) 1) OneNode) _ (other-when c (leb (length (g .nodes)) 1) OneNode refl)
+    (other-first c (when (not (eqb (piecesOf g) 1)) Disconnected) _ (other-when c (not (eqb (piecesOf g) 1)) Disconnected refl)
+    (other-first c (Option·map (λ ij. Parallel (ij .0) (ij .1)) (firstPair (g .links))) _ (other-map c (λ (ij : ℕ × ℕ). Parallel (ij .0) (ij .1)) (λ ij. refl) (firstPair (g .links)))
+    (other-first c (lowest endOf (g .links) (g .nodes)) _ (other-lowest c endOf (end-other c) (g .links) (g .nodes))
+    (other-first c (lowest seriesOf (g .links) (g .nodes)) (Split c) (other-lowest c seriesOf (series-other c) (g .links) (g .nodes)) refl)))))

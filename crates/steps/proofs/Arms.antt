@@ -8,17 +8,18 @@ use mathlib.Core.Option.{some, Option·map}
 use lib.Dec.{eqb, leb}
 use lib.ListN.{length, getD, set}
 use borrow.Author.Tests.{le-leb, lt-leb}
-use Rattle.rounding.specs.Rounding.{S}
+use Rattle.rounding.specs.Rounding.{S, factor}
 use Rattle.rounding.specs.declared.Direction.the-variants.{Down, Up}
 use Rattle.bits.specs.Members.{members, howMany}
 use Rattle.reliability.specs.declared.Link.{Link}
 use Rattle.reliability.specs.declared.Step.{Step}
 use Rattle.reliability.specs.declared.Step.the-variants.{OneNode, End, Series, Split}
-use Rattle.reliability.specs.Networks.{Network as Graph, ends, connected, pieces, piecesOf}
-use Rattle.reliability.specs.Rule.{isLoop, firstAt, lowest, endOf, seriesOf, chosen, when, _otherwise_, next, leaves, removed, deleted, joined, inSeries, contracted, ready, tree}
+use Rattle.reliability.specs.Networks.{Network as Graph, value, ends, connected, pieces, piecesOf}
+use Rattle.reliability.specs.Rule.{isLoop, firstAt, lowest, endOf, seriesOf, chosen, when, _otherwise_, next, leaves, removed, deleted, joined, inSeries, contracted, ready, multiplied, fork, tree}
 use Rattle.reliability.specs.Simple.{Loopless, Plain, Simple, unpaired}
 use Rattle.reliability.proofs.Validity.{proper-at, deleted-valid}
-use Rattle.reliability.proofs.Unrolled.{Below, tree-settled, below-scaled, below-sound, below-broken}
+use Rattle.reliability.proofs.Unrolled.{Below, tree-settled, tree-scaled, tree-branches, below-scaled, below-sound, below-broken}
+use Rattle.reliability.proofs.Steps.{split-chosen}
 use Rattle.reliability.proofs.Simple.{simple-next, connected-pieces-few, apart-tree, unpaired-simple, unpaired-tree, unpaired-fewer, end-simple, series-plain, contracted-plain, deleted-simple}
 use Rattle.search.specs.declared.Found.the-variants.{At, Nothing}
 use Rattle.search.specs.Searches.{placesIn, endsIn, found, loops}
@@ -110,6 +111,10 @@ module _ (n : Network) (work : Workable n) where
   pub rule : (s : Step) → Fitting n s → leaves g (next g) ≡ leaves g (ranked n s)
   rule s f = by-rule n (work .holds) s f
 
+  pub one-tree : Fitting n OneNode → tree g ≡ ready (λ d. S)
+  unfolding leaves ranked
+  one-tree f = tree-settled g (work .holds .valid) S (rule OneNode f)
+
   pub link-is : (e : Link) (i : ℕ) → Used n i → e ≡ rowOf (n .a) (n .b) (n .low) (n .high) i → e ≡ linkOf n i
   link-is e i u is = is ∙ sym (link-at n (work .sized) i u)
 
@@ -121,6 +126,10 @@ module _ (n : Network) (work : Workable n) where
     pub end-work : (r : Network) → networkOf r ≡ removed v (deleted (indexOf n i) g) → Sized r → Invariant r → Workable r
     unfolding ranked
     end-work r e sized holds = record { sized = sized; holds = holds; simple = subst Simple (sym e) (end-simple g (work .simple) v (indexOf n i) (known n (work .holds) (End v i) f)) }
+
+    pub end-tree : tree g ≡ multiplied (λ d. value d (linkOf n i)) (tree (removed v (deleted (indexOf n i) g)))
+    unfolding leaves ranked
+    end-tree = tree-scaled g (work .holds .valid) _ _ (rule (End v i) f)
 
     -- one node is left
     pub last-end : (others : ℕ) → members others ≡ set (members (n .nodes)) v false → leb (howMany (members others)) 1 ≡ true
@@ -142,6 +151,11 @@ module _ (n : Network) (work : Workable n) where
     unfolding leaves ranked
     series-below = below-scaled g (work .holds .valid) _ _ (rule (Series v i j) f)
 
+    pub series-tree : tree g
+        ≡ multiplied (λ d. factor d (value d (linkOf n i)) (value d (linkOf n j))) (tree (removed v (joined (indexOf n i) (indexOf n j) (inSeries v (linkOf n i) (linkOf n j)) g)))
+    unfolding leaves ranked
+    series-tree = tree-scaled g (work .holds .valid) _ _ (rule (Series v i j) f)
+
   module _ (i : ℕ) (f : Fitting n (Split i)) where
     abbrev broken : Graph
     broken = deleted (indexOf n i) g
@@ -157,6 +171,12 @@ module _ (n : Network) (work : Workable n) where
     pub broken-below : Below g broken
     unfolding leaves ranked
     broken-below = below-broken g (work .holds .valid) _ _ _ (rule (Split i) f)
+
+    pub split-tree : tree g ≡ fork (indexOf n i) (linkOf n i) (tree (contracted (linkOf n i) broken)) (tree broken)
+    unfolding leaves ranked
+    split-tree =
+        tree-branches g (work .holds .valid) _ _ _ (rule (Split i) f)
+        ∙ ap (λ (p : ℕ). fork p (linkOf n i) (tree (contracted (linkOf n i) broken)) (tree broken)) (sym (split-chosen g (indexOf n i) (sym (f .by-rule))))
 
     -- the network without link i, by value
     module _ (e : Link) (is : e ≡ rowOf (n .a) (n .b) (n .low) (n .high) i) (others : ℕ) (one two : List ℕ) (cleared : members others ≡ set (members (n .alive)) i false)
