@@ -168,8 +168,11 @@ module _ (g : Network) (valid : Valid g) where
       go false =
           let e = steps (tree g) j in
           record {
-            traces = traced-opens (tree g) j; in-order = tree-ordered g valid j; in-range = tree-in-range g valid j;
-            few = le-trans (opens-depth (tree g) j) (tree-depth g valid); within = omega arith;
+            traces = traced-opens (tree g) j;
+            in-order = tree-ordered g valid j;
+            in-range = tree-in-range g valid j;
+            few = le-trans (opens-depth (tree g) j) (tree-depth g valid);
+            within = omega arith;
           }
 
   -- so what is saved passes every check of saved work again

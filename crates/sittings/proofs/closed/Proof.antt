@@ -37,8 +37,8 @@ returns-2 c =
     let start = c .before .before .before .before .before .before in
     let a = start .args in
     let own =
-        own-known (a .place) (a .sound .figure) (a .broken .figure) (a .sound .aside) (a .broken .aside) (not-false (a .sound .figure .finished) (c .before .before .before .before .if1 .left))
-        (not-true (a .broken .figure .finished) (c .before .before .before .if2 .taken)) in (
+    own-known (a .place) (a .sound .figure) (a .broken .figure) (a .sound .aside) (a .broken .aside) (not-false (a .sound .figure .finished) (c .before .before .before .before .if1 .left))
+    (not-true (a .broken .figure .finished) (c .before .before .before .if2 .taken)) in (
       c .before .before .before .before .before .mixed .ensures,
       (add-one (a .broken .aside) ∙ sym (own .0), c .before .put-open2 .ensures ∙ ap (sets (a .row .now) (3 * a .k)) (sym (own .1))),
     )
@@ -47,8 +47,8 @@ returns-3 : tie.Need-returns-3
 returns-3 c =
     let a = c .before .before .before .args in
     let own =
-        own-done (a .place) (a .sound .figure) (a .broken .figure) (a .sound .aside) (a .broken .aside) (not-false (a .sound .figure .finished) (c .before .if1 .left))
-        (not-false (a .broken .figure .finished) (c .if2 .left)) in
+    own-done (a .place) (a .sound .figure) (a .broken .figure) (a .sound .aside) (a .broken .aside) (not-false (a .sound .figure .finished) (c .before .if1 .left))
+    (not-false (a .broken .figure .finished) (c .if2 .left)) in
     (c .before .before .mixed .ensures, (sym (own .0), ap (sets (a .row .now) (3 * a .k)) (sym (own .1))))
 
 pub closed-spec : {M : Type 1} → statement M
