@@ -24,14 +24,14 @@ pair-of k = λ i d. same d i
     same Down = refl
     same Up = refl
 
+pub running-again : (i : ℕ) → entered i 1 0 ≡ running i
+unfolding entered
+running-again i = refl
+
 pub known-again : (i : ℕ) (k : Direction → ℕ) → InOrder k → entered i (k Down) (k Up) ≡ known i k
 unfolding entered
 known-again i k h =
     ap (λ t. elim t as (λ x. Open) [ true ↦ known i (pair (k Down) (k Up)) | false ↦ running i ]) (le-leb (k Down) (k Up) h) ∙ ap (known i) (pair-of k)
-
-pub running-again : (i : ℕ) → entered i 1 0 ≡ running i
-unfolding entered
-running-again i = refl
 
 -- what is written from place i on leaves what is before
 pub getD-sets-before : (vs l : List ℕ) (i j : ℕ) → j < i → getD (sets l i vs) j 0 ≡ getD l j 0
