@@ -9,7 +9,6 @@ use lib.Dec.{eqb}
 use borrow.Author.Tests.{eq-eqb}
 use lib.ListN.{length}
 use Rattle.rounding.specs.declared.Direction.{Direction}
-use Rattle.reliability.specs.declared.Link.{Link}
 use Rattle.reliability.specs.Networks.{Network, Valid as NetworkValid}
 use Rattle.reliability.specs.Rule.{chosen, stepAt, Remainder, settled, rest, scaled, branches, Tree, ready, multiplied, fork, taken, grown, treeOf, tree, run}
 use Rattle.reliability.proofs.Lawful.{Leaves, View, Sized, Lawful, Choice}

@@ -9,7 +9,7 @@ use Rattle.rounding.specs.Rounding.{S, quotient, product, parallel, either, ser
 use Rattle.reliability.specs.declared.Link.{Link}
 use Rattle.reliability.specs.Networks.{Network, linked, merge, label, every, connected, lastOfEach}
 use Rattle.reliability.specs.Rule.{firstAt, places, firstPair, lowest, nextAt, deleteAt, without, leaves, Tree, ready, multiplied, fork, grown, treeOf, tree, run}
-use Rattle.sittings.specs.Sittings.{Open, running, known, opens, resumed, traced, Saved, begun, complete, Sitting, nothing, sitting, savedAfter}
+use Rattle.sittings.specs.Sittings.{Open, running, known, opens, resumed, traced, Saved, begun, complete, nothing, sitting, savedAfter}
 use Rattle.sittings.specs.Entries.{entries, entered, opensIn}
 
 pub half : ℕ
