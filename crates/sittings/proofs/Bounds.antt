@@ -161,6 +161,10 @@ ranged-sound (multiplied k t) h = ranged-sound t (h .1)
 ranged-sound (fork i e s b) h = (λ l d. range s (h .1) d l, ranged-sound s (h .1), ranged-sound b (h .2))
 ranged-sound (taken i e s b) h = (λ l d. range s (h .1) d l, ranged-sound s (h .1), ranged-sound b (h .2))
 
+-- known figures in range: so are those that a carried run sets aside
+pub carried-in-range : (t : Tree) (os : List Open) (l : ℕ) → Ranged t → Known InRange os → Known InRange (opens (resumed t os) l)
+carried-in-range t os l h q = opens-known InRange (resumed t os) (ranged-sound (resumed t os) (resumed-ranged t os h q)) l
+
 -- ---- the work of a rule
 
 module _ {N : Type 0} (Valid : N → Type 0) (μ : View N) (step : ℕ → N → Remainder N) (lawful : Lawful Valid μ step) (choose : N → ℕ) (choice : Choice μ choose) where
