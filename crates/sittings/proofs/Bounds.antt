@@ -9,7 +9,6 @@ use lib.Dec.{eqb}
 use borrow.Author.Tests.{eq-eqb}
 use lib.ListN.{length}
 use Rattle.rounding.specs.declared.Direction.{Direction}
-use Rattle.reliability.specs.declared.Link.{Link}
 use Rattle.reliability.specs.Networks.{Network, Valid as NetworkValid}
 use Rattle.reliability.specs.Rule.{chosen, stepAt, Remainder, settled, rest, scaled, branches, Tree, ready, multiplied, fork, taken, grown, treeOf, tree, run}
 use Rattle.reliability.proofs.Lawful.{Leaves, View, Sized, Lawful, Choice}
@@ -161,6 +160,10 @@ ranged-sound (ready k) h = tt
 ranged-sound (multiplied k t) h = ranged-sound t (h .1)
 ranged-sound (fork i e s b) h = (λ l d. range s (h .1) d l, ranged-sound s (h .1), ranged-sound b (h .2))
 ranged-sound (taken i e s b) h = (λ l d. range s (h .1) d l, ranged-sound s (h .1), ranged-sound b (h .2))
+
+-- known figures in range: so are those that a carried run sets aside
+pub carried-in-range : (t : Tree) (os : List Open) (l : ℕ) → Ranged t → Known InRange os → Known InRange (opens (resumed t os) l)
+carried-in-range t os l h q = opens-known InRange (resumed t os) (ranged-sound (resumed t os) (resumed-ranged t os h q)) l
 
 -- ---- the work of a rule
 

@@ -4,3 +4,4 @@ pub mod Asides
 pub mod Bounds
 pub mod Rows
 pub mod Totals
+pub mod Examples

@@ -6,7 +6,6 @@ use mathlib.Core.Bool.{true, false}
 use native.Mathlib.Nat.{add-zero}
 use native.Mathlib.Numerals.{add-one, add-two}
 use native.Mathlib.Omega.{arith}
-use lib.Dec.{leb}
 use lib.ListN.{length, getD, set, length-set}
 use lib.Seq.{sets, getD-set-same, getD-set-other}
 use borrow.Author.Tests.{le-leb}
@@ -24,14 +23,14 @@ pair-of k = λ i d. same d i
     same Down = refl
     same Up = refl
 
+pub running-again : (i : ℕ) → entered i 1 0 ≡ running i
+unfolding entered
+running-again i = refl
+
 pub known-again : (i : ℕ) (k : Direction → ℕ) → InOrder k → entered i (k Down) (k Up) ≡ known i k
 unfolding entered
 known-again i k h =
     ap (λ t. elim t as (λ x. Open) [ true ↦ known i (pair (k Down) (k Up)) | false ↦ running i ]) (le-leb (k Down) (k Up) h) ∙ ap (known i) (pair-of k)
-
-pub running-again : (i : ℕ) → entered i 1 0 ≡ running i
-unfolding entered
-running-again i = refl
 
 -- what is written from place i on leaves what is before
 pub getD-sets-before : (vs l : List ℕ) (i j : ℕ) → j < i → getD (sets l i vs) j 0 ≡ getD l j 0
@@ -59,14 +58,14 @@ module _ (row : List ℕ) (k a b c : ℕ) (h : 3 * k + 3 ≤ length row) where
   entry-again xs =
       let all = sets entire (suc (suc (suc j))) xs in
       let x : getD all j 0 ≡ a =
-          getD-sets-before xs entire (suc (suc (suc j))) j (omega arith) ∙ getD-set-other second (suc (suc j)) j c 0 (λ e. absurd (omega arith))
-          ∙ getD-set-other first (suc j) j b 0 (λ e. absurd (omega arith)) ∙ getD-set-same row j a 0 (omega arith) in
+      getD-sets-before xs entire (suc (suc (suc j))) j (omega arith) ∙ getD-set-other second (suc (suc j)) j c 0 (λ e. absurd (omega arith))
+      ∙ getD-set-other first (suc j) j b 0 (λ e. absurd (omega arith)) ∙ getD-set-same row j a 0 (omega arith) in
       let y : getD all (suc j) 0 ≡ b =
-          getD-sets-before xs entire (suc (suc (suc j))) (suc j) (omega arith) ∙ getD-set-other second (suc (suc j)) (suc j) c 0 (λ e. absurd (omega arith))
-          ∙ getD-set-same first (suc j) b 0 (omega (arith, length-set row j a)) in
+      getD-sets-before xs entire (suc (suc (suc j))) (suc j) (omega arith) ∙ getD-set-other second (suc (suc j)) (suc j) c 0 (λ e. absurd (omega arith))
+      ∙ getD-set-same first (suc j) b 0 (omega (arith, length-set row j a)) in
       let z : getD all (suc (suc j)) 0 ≡ c =
-          getD-sets-before xs entire (suc (suc (suc j))) (suc (suc j)) (omega arith)
-          ∙ getD-set-same second (suc (suc j)) c 0 (omega (arith, length-set first (suc j) b, length-set row j a)) in
+      getD-sets-before xs entire (suc (suc (suc j))) (suc (suc j)) (omega arith)
+      ∙ getD-set-same second (suc (suc j)) c 0 (omega (arith, length-set first (suc j) b, length-set row j a)) in
       ap₂ (λ m n. entered (getD all j 0) (getD all m 0) (getD all n 0)) (add-one j) (add-two j)
       ∙ ap (λ n. entered n (getD all (suc j) 0) (getD all (suc (suc j)) 0)) x ∙ ap₂ (entered a) y z
 
@@ -86,8 +85,8 @@ opens-in-alike row row′ k (suc c) h =
     ap₂ _∷_
     (ap (λ n. entered n (getD row (3 * k + 1) 0) (getD row (3 * k + 2) 0)) first ∙ ap₂ (entered (getD row′ (3 * k) 0)) (h 1 (omega arith)) (h 2 (omega arith)))
     (opens-in-alike row row′ (suc k) c (λ j less.
-      let same : 3 * suc k + j ≡ 3 * k + (3 + j) = omega arith in
-      ap (λ n. getD row n 0) same ∙ h (3 + j) (omega arith) ∙ ap (λ n. getD row′ n 0) (sym same)))
+    let same : 3 * suc k + j ≡ 3 * k + (3 + j) = omega arith in
+    ap (λ n. getD row n 0) same ∙ h (3 + j) (omega arith) ∙ ap (λ n. getD row′ n 0) (sym same)))
 
 read-entry : (row : List ℕ) (k a b c : ℕ) (os : List Open) (o : Open) → 3 * (k + suc (length os)) ≤ length row → entered a b c ≡ o
     → ((r : List ℕ) → 3 * (suc k + length os) ≤ length r → opensIn (sets r (3 * suc k) (entries os)) (suc k) (length os) ≡ os)

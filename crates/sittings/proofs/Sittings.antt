@@ -10,8 +10,8 @@ use Rattle.rounding.specs.declared.Direction.{Direction}
 use Rattle.rounding.specs.declared.Direction.the-variants.{Down, Up}
 use Rattle.reliability.specs.declared.Figure.{Figure}
 use Rattle.reliability.specs.declared.Link.{Link}
-use Rattle.reliability.specs.Rule.{side, bounded, times, mixed, more, stepped, inTurn, Tree, ready, multiplied, fork, taken, run, splits}
-use Rattle.reliability.proofs.Runs.{side-bounded, steps, finished, all-taken, spare, stays}
+use Rattle.reliability.specs.Rule.{side, bounded, times, mixed, more, stepped, inTurn, Tree, ready, multiplied, fork, taken, run}
+use Rattle.reliability.proofs.Runs.{side-bounded, steps, all-taken, spare, stays}
 use Rattle.sittings.specs.Sittings.{Open, running, known, sides, opened, opens, resumed}
 
 -- a split that is taken, after a run of its branches: the sound branch is ready where it is finished, else the broken one is as it was
@@ -41,6 +41,9 @@ sides-more n f = λ i d. same d i
     same : (d : Direction) → side d f ≡ side d (more n f)
     same Down = refl
     same Up = refl
+
+opened-more : (i n : ℕ) (f : Figure) (sound broken : List Open) → opened i f sound broken ≡ opened i (more n f) sound broken
+opened-more i n f sound broken = ap (λ q. elim (f .finished) [ true ↦ known i q ∷ broken | false ↦ running i ∷ sound ]) (sides-more n f)
 
 -- the sittings of l and k steps are one of both
 abbrev Adds : Tree → ℕ → ℕ → Type 0
@@ -98,7 +101,7 @@ module _ (i : ℕ) (p : Link) (s b : Tree) (l k : ℕ) where
           let f = run (remaining s l) k in
           let left : l + k - (n + f .steps) ≡ k - f .steps = omega arith in
           ap₂ (λ o j. opened i f o (opens b j)) sound (sym left)
-          ∙ ap (λ q. elim (f .finished) [ true ↦ known i q ∷ opens b (l + k - (n + f .steps)) | false ↦ running i ∷ opens s (l + k) ]) (sides-more n f)
+          ∙ opened-more i n f (opens s (l + k)) (opens b (l + k - (n + f .steps)))
           ∙ ap (λ (f : Figure). opened i f (opens s (l + k)) (opens b (l + k - f .steps))) adds
 
 pub adds : (t : Tree) (l k : ℕ) → Adds t l k

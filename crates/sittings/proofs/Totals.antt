@@ -18,7 +18,7 @@ use Rattle.reliability.proofs.Theorems.{low-high, high-range}
 use Rattle.sittings.specs.Sittings.{Open, opens, resumed, traced, Saved, begun, complete, Sitting, nothing, most, keeping, sitting, savedAfter}
 use Rattle.sittings.specs.Entries.{Known, InRange, InOrder}
 use Rattle.sittings.proofs.Sittings.{more-zero, two-figure, two-opens}
-use Rattle.sittings.proofs.Bounds.{depth, opens-depth, traced-opens, tree-depth, tree-ordered, tree-in-range}
+use Rattle.sittings.proofs.Bounds.{opens-depth, traced-opens, tree-depth, tree-ordered, tree-in-range}
 
 more-more : (n k : ℕ) (f : Figure) → more (n + k) f ≡ more n (more k f)
 more-more n k f = λ i. record { low = f .low; high = f .high; steps = add-assoc n k (f .steps) i; finished = f .finished }
@@ -168,8 +168,11 @@ module _ (g : Network) (valid : Valid g) where
       go false =
           let e = steps (tree g) j in
           record {
-            traces = traced-opens (tree g) j; in-order = tree-ordered g valid j; in-range = tree-in-range g valid j;
-            few = le-trans (opens-depth (tree g) j) (tree-depth g valid); within = omega arith;
+            traces = traced-opens (tree g) j;
+            in-order = tree-ordered g valid j;
+            in-range = tree-in-range g valid j;
+            few = le-trans (opens-depth (tree g) j) (tree-depth g valid);
+            within = omega arith;
           }
 
   -- so what is saved passes every check of saved work again

@@ -1,7 +1,5 @@
-use Prim.Native.Nat.{_*_}
-use mathlib.Core.Path.{sym, ap, _∙_}
+use mathlib.Core.Path.{sym, _∙_}
 use native.Mathlib.Numerals.{add-one}
-use lib.Seq.{sets}
 use Rattle.sittings.proofs.Own.{own-running, own-known, own-done}
 use borrow.Author.Needs.{needs}
 use borrow.Author.Tests.{not-true, not-false}
@@ -19,11 +17,10 @@ add-t16 c = search needs
 
 returns : tie.Need-returns
 returns c =
-    let start = c .before .before .before .before .before in
-    let a = start .args in
+    let a = c .before .before .before .before .before .args in
     let own = own-running (a .place) (a .sound .figure) (a .broken .figure) (a .sound .aside) (a .broken .aside) (not-true (a .sound .figure .finished) (c .before .before .before .if1 .taken)) in (
       c .before .before .before .before .mixed .ensures,
-      (add-one (a .sound .aside) ∙ sym (own .0), c .before .put-open .ensures ∙ ap (sets (a .row .now) (3 * a .k)) (sym (own .1))),
+      (add-one (a .sound .aside) ∙ sym (own .0), rw (own .1) (c .before .put-open .ensures)),
     )
 
 put-open-requires-2 : tie.Need-put-open-requires-2
@@ -34,22 +31,21 @@ add-t19 c = search needs
 
 returns-2 : tie.Need-returns-2
 returns-2 c =
-    let start = c .before .before .before .before .before .before in
-    let a = start .args in
+    let a = c .before .before .before .before .before .before .args in
     let own =
-        own-known (a .place) (a .sound .figure) (a .broken .figure) (a .sound .aside) (a .broken .aside) (not-false (a .sound .figure .finished) (c .before .before .before .before .if1 .left))
-        (not-true (a .broken .figure .finished) (c .before .before .before .if2 .taken)) in (
+    own-known (a .place) (a .sound .figure) (a .broken .figure) (a .sound .aside) (a .broken .aside) (not-false (a .sound .figure .finished) (c .before .before .before .before .if1 .left))
+    (not-true (a .broken .figure .finished) (c .before .before .before .if2 .taken)) in (
       c .before .before .before .before .before .mixed .ensures,
-      (add-one (a .broken .aside) ∙ sym (own .0), c .before .put-open2 .ensures ∙ ap (sets (a .row .now) (3 * a .k)) (sym (own .1))),
+      (add-one (a .broken .aside) ∙ sym (own .0), rw (own .1) (c .before .put-open2 .ensures)),
     )
 
 returns-3 : tie.Need-returns-3
 returns-3 c =
     let a = c .before .before .before .args in
     let own =
-        own-done (a .place) (a .sound .figure) (a .broken .figure) (a .sound .aside) (a .broken .aside) (not-false (a .sound .figure .finished) (c .before .if1 .left))
-        (not-false (a .broken .figure .finished) (c .if2 .left)) in
-    (c .before .before .mixed .ensures, (sym (own .0), ap (sets (a .row .now) (3 * a .k)) (sym (own .1))))
+    own-done (a .place) (a .sound .figure) (a .broken .figure) (a .sound .aside) (a .broken .aside) (not-false (a .sound .figure .finished) (c .before .if1 .left))
+    (not-false (a .broken .figure .finished) (c .if2 .left)) in
+    (c .before .before .mixed .ensures, (sym (own .0), rw (own .1)))
 
 pub closed-spec : {M : Type 1} → statement M
 closed-spec =
