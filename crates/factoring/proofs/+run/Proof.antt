@@ -571,8 +571,14 @@ module _ (t : ℕ) (q : Asked t) where
   abbrev state : Split-known t
   state = split-of t q
 
-  abbrev args : run-lts.Args (given t state .κs)
-  args = given t state .args
+  abbrev depth-at : ℕ
+  depth-at = given t state .args .k
+
+  abbrev splits-left : ℕ
+  splits-left = given t state .args .left
+
+  abbrev limit : ℕ
+  limit = given t state .args .limit
 
   abbrev own : ℕ
   own = q .before .before .before .own-steps .result
@@ -583,34 +589,34 @@ module _ (t : ℕ) (q : Asked t) where
   abbrev isIt : Bool
   isIt = q .is-known .result
 
-  going : (eqb (args .left) 0 && eqb (args .limit) 0) ≡ false
+  going : (eqb splits-left 0 && eqb limit 0) ≡ false
   going = sym (state .stopped .ensures) ∙ q .before .before .before .before .before .before .if2 .left
 
   abbrev row : List ℕ
-  row = args .row .now
+  row = given t state .args .row .now
 
   -- the work of the branches
   abbrev S₁ : Tree
-  S₁ = soundOf (tree (sound t state)) row (args .k) inner isIt
+  S₁ = soundOf (tree (sound t state)) row depth-at inner isIt
 
   abbrev B₁ : Tree
-  B₁ = brokenOf (tree (broken t state)) row (args .k) inner isIt
+  B₁ = brokenOf (tree (broken t state)) row depth-at inner isIt
 
   sound-bounds : Ranged S₁
   sound-bounds =
-      sound-ranged (indexOf (n t state) (place t state)) (link t state) (tree (sound t state)) (tree (broken t state)) row (args .k) (args .left) inner (q .before .before .behind .ensures) isIt (q .is-known .ensures) (split-carries t state)
+      sound-ranged (indexOf (n t state) (place t state)) (link t state) (tree (sound t state)) (tree (broken t state)) row depth-at splits-left inner (q .before .before .behind .ensures) isIt (q .is-known .ensures) (split-carries t state)
       (tree-ranged (sound t state) (sound-below (n t state) (workable t (told t state)) (place t state) (split-fits t state) .valid))
 
   broken-bounds : Ranged B₁
   broken-bounds =
-      broken-ranged (indexOf (n t state) (place t state)) (link t state) (tree (sound t state)) (tree (broken t state)) row (args .k) (args .left) inner (q .before .before .behind .ensures) isIt (q .is-known .ensures) (split-carries t state)
+      broken-ranged (indexOf (n t state) (place t state)) (link t state) (tree (sound t state)) (tree (broken t state)) row depth-at splits-left inner (q .before .before .behind .ensures) isIt (q .is-known .ensures) (split-carries t state)
       (tree-ranged (broken t state) (broken-below (n t state) (workable t (told t state)) (place t state) (split-fits t state) .valid))
 
   sound-open : (l : ℕ) → length (aside S₁ l) ≤ 64
-  sound-open = sound-few (indexOf (n t state) (place t state)) (link t state) (tree (sound t state)) (tree (broken t state)) row (args .k) (args .left) inner (q .before .before .behind .ensures) isIt (q .is-known .ensures) (split-carries t state) 64 (sound-depth t state)
+  sound-open = sound-few (indexOf (n t state) (place t state)) (link t state) (tree (sound t state)) (tree (broken t state)) row depth-at splits-left inner (q .before .before .behind .ensures) isIt (q .is-known .ensures) (split-carries t state) 64 (sound-depth t state)
 
   broken-open : (l : ℕ) → length (aside B₁ l) ≤ 64
-  broken-open = broken-few (indexOf (n t state) (place t state)) (link t state) (tree (sound t state)) (tree (broken t state)) row (args .k) (args .left) inner (q .before .before .behind .ensures) isIt (q .is-known .ensures) (split-carries t state) 64 (broken-depth t state)
+  broken-open = broken-few (indexOf (n t state) (place t state)) (link t state) (tree (sound t state)) (tree (broken t state)) row depth-at splits-left inner (q .before .before .behind .ensures) isIt (q .is-known .ensures) (split-carries t state) 64 (broken-depth t state)
 
 run-add-run : (t : ℕ) → run-lts.Need-add-run (claims t) (run-at t) run.Post
 run-add-run t c =
@@ -629,11 +635,11 @@ run-run-requires-3 t c κs =
     let n = net t o in
     let r = l .contracted .result in
     let few = unpaired-less (sound-plainly t s) r (p .result) (sound-is t l) (p .ensures .0) (networkOf n) (sound-below n (workable t o) _ (split-fits t s)) in
-    let carried = sound-carries (indexOf n (place t s)) (link t s) (tree (sound t s)) (tree (broken t s)) (row t q) (args t q .k) (args t q .left) (inner t q) (q .before .before .behind .ensures) (isIt t q) (q .is-known .ensures) (split-carries t s) (e .if3 .left) in (
+    let carried = sound-carries (indexOf n (place t s)) (link t s) (tree (sound t s)) (tree (broken t s)) (row t q) (depth-at t q) (splits-left t q) (inner t q) (q .before .before .behind .ensures) (isIt t q) (q .is-known .ensures) (split-carries t s) (e .if3 .left) in (
       less t o _ few,
       (
         (unpaired-work (sound-plainly t s) r (p .result) (sound-is t l) (p .ensures .0) (sized-of (p .lifetimes) (p .result) (p .ok)) (p .ensures .1), omega (arith, o .before .pre .1 .0 .1)),
-        (omega (arith, few, room t o), subst (λ (u : Tree). Carries u (row t q) (args t q .k + 1) (inner t q)) (sound-worked t j) (subst (λ (x : ℕ). Carries (tree (sound t s)) (row t q) x (inner t q)) (sym (add-one (args t q .k))) carried)),
+        (omega (arith, few, room t o), subst (λ (u : Tree). Carries u (row t q) (depth-at t q + 1) (inner t q)) (sound-worked t j) (subst (λ (x : ℕ). Carries (tree (sound t s)) (row t q) x (inner t q)) (sym (add-one (depth-at t q))) carried)),
       ),
     )
 
@@ -649,7 +655,7 @@ module _ (t : ℕ) (m : Met t) where
   given-row = row t at
 
   abbrev SoundWorked : Type 0
-  SoundWorked = Worked (S₁ t at) (args t at .limit - own t at) given-row (suc (args t at .k)) (m .if3 .sound) (m .if3 .row) × (isIt t at ≡ true → m .if3 .row ≡ given-row)
+  SoundWorked = Worked (S₁ t at) (limit t at - own t at) given-row (suc (depth-at t at)) (m .if3 .sound) (m .if3 .row) × (isIt t at ≡ true → m .if3 .row ≡ given-row)
 
   sound-given : SoundWorked
   sound-given = go (m .if3 .came)
