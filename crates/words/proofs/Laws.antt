@@ -1,4 +1,4 @@
--- Four bytes stored, and a number that is written and read back.
+-- Two and four bytes stored, and a number that is written and read back.
 use Prim.Native.Nat.{ℕ, _+_, _/_, _%_, _^_, _≤_, _<_}
 use mathlib.Core.Path.{_≡_, ap, _∙_}
 use mathlib.Core.List.{List, [], _∷_, _++_, append-assoc}
@@ -9,7 +9,10 @@ use lib.ListN.{length, take, drop, set}
 use lib.Seq.{sets-eq, getD-append-add, length-take-le}
 use Rattle.words.specs.Words.{byte, word32, le4, with32}
 
--- four bytes stored one after the other
+-- two and four bytes stored one after the other
+pub stores2 : (l : List ℕ) (at a b : ℕ) → at + 2 ≤ length l → set (set l at a) (at + 1) b ≡ take at l ++ (a ∷ b ∷ []) ++ drop (at + 2) l
+stores2 l at a b h = rw add-one (sets-eq (a ∷ b ∷ []) l at h)
+
 pub stores : (l : List ℕ) (at a b c d : ℕ) → at + 4 ≤ length l
     → set (set (set (set l at a) (at + 1) b) (at + 2) c) (at + 3) d ≡ take at l ++ (a ∷ b ∷ c ∷ d ∷ []) ++ drop (at + 4) l
 stores l at a b c d h = rw (add-one, add-two, add-three) (sets-eq (a ∷ b ∷ c ∷ d ∷ []) l at h)
