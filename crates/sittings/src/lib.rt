@@ -44,7 +44,11 @@ pub fn is_known(row: &[u32; 192], k: usize, left: usize) -> bool
     requires { ⌜ (k < 64) × (length (now row) ≡ 192) ⌝ }
     ensures { λ r. ⌜ r ≡ (not (eqb left 0) && leb (getD (now (row .entry)) (3 * k + 1) 0) (getD (now (row .entry)) (3 * k + 2) 0)) ⌝ }
 {
-    if left == 0 { false } else { row[3 * k + 1] <= row[3 * k + 2] }
+    if left == 0 {
+        false
+    } else {
+        row[3 * k + 1] <= row[3 * k + 2]
+    }
 }
 
 // The figures that stand at place k of the row.
@@ -74,7 +78,15 @@ fn put_open(row: &mut [u32; 192], k: usize, place: u32, low: u32, high: u32)
 }
 
 // The figure of a split on link e, from what its branches gave, and its own entry at place k of the row, if it has one.
-pub fn closed(row: &mut [u32; 192], k: usize, place: u32, e: Link, own: u32, sound: Carried, broken: Carried) -> Carried
+pub fn closed(
+    row: &mut [u32; 192],
+    k: usize,
+    place: u32,
+    e: Link,
+    own: u32,
+    sound: Carried,
+    broken: Carried,
+) -> Carried
     requires { ⌜ (k < 64) × (length (now row) ≡ 192) ⌝ }
     requires { ⌜ (e .low ≤ S) × (e .high ≤ S) × (sound .figure .low ≤ S) × (sound .figure .high ≤ S) × (broken .figure .low ≤ S) × (broken .figure .high ≤ S) ⌝ }
     requires { ⌜ (own + (sound .figure .steps + broken .figure .steps) < 2 ^ 32) × (sound .aside ≤ 64) × (broken .aside ≤ 64) ⌝ }

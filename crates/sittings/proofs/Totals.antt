@@ -1,0 +1,182 @@
+-- A user who works through several sittings gets the answer of one sitting whose limit is their total.
+use Prim.Native.Nat.{ℕ, _+_, _-_, _≤_, min, zero-le}
+use mathlib.Core.Path.{_≡_, refl, sym, ap, ap₂, _∙_, subst}
+use mathlib.Core.List.{List, [], _∷_}
+use mathlib.Core.Bool.{Bool, true, false}
+use native.Mathlib.Nat.{add-assoc, add-zero, zero-add, le-trans}
+use native.Mathlib.Omega.{arith}
+use lib.Dec.{leb}
+use lib.ListN.{length}
+use borrow.Author.Tests.{le-leb, lt-leb, leb-true, leb-false}
+use Rattle.rounding.specs.Rounding.{S}
+use Rattle.reliability.specs.declared.Figure.{Figure}
+use Rattle.reliability.specs.Networks.{Network, Valid}
+use Rattle.reliability.specs.Exact.{altogether}
+use Rattle.reliability.specs.Rule.{figure, more, Tree, run, splits, tree}
+use Rattle.reliability.proofs.Runs.{steps, finished, all-taken, stays}
+use Rattle.reliability.proofs.Theorems.{low-high, high-range}
+use Rattle.sittings.specs.Sittings.{Open, opens, resumed, traced, Saved, begun, complete, Sitting, nothing, most, keeping, sitting, savedAfter}
+use Rattle.sittings.specs.Entries.{Known, InRange, InOrder}
+use Rattle.sittings.proofs.Sittings.{more-zero, two-figure, two-opens}
+use Rattle.sittings.proofs.Bounds.{opens-depth, traced-opens, tree-depth, tree-ordered, tree-in-range}
+
+more-more : (n k : ℕ) (f : Figure) → more (n + k) f ≡ more n (more k f)
+more-more n k f = λ i. record { low = f .low; high = f .high; steps = add-assoc n k (f .steps) i; finished = f .finished }
+
+abbrev kept : Figure → Saved → Sitting
+kept f s = record { answer = f; saved = s }
+
+module _ (t : Tree) where
+  module _ (os : List Open) (n l k : ℕ) where
+    abbrev u : Tree
+    u = resumed t os
+
+    -- the first sitting's limit, and the longer one's
+    abbrev l₁ : ℕ
+    l₁ = min l (most - n)
+
+    abbrev longer : ℕ
+    longer = min (l + k) (most - n)
+
+    abbrev f₁ : Figure
+    f₁ = run u l₁
+
+    abbrev Outcome : ℕ → Sitting
+    Outcome j = let f = more n (run u j) in record { answer = f; saved = keeping f (opens u j) }
+
+    two-by : (c : Bool) → f₁ .finished ≡ c → sitting t (elim c [ true ↦ complete (more n f₁) | false ↦ begun (opens u l₁) (n + f₁ .steps) ]) k ≡ Outcome longer
+    unfolding sitting
+    two-by true e =
+        let same : longer ≡ l₁ + (longer - l₁) = omega arith in
+        ap (λ (c : Bool). kept (more n f₁) (elim c [ true ↦ complete (more n f₁) | false ↦ begun (opens u longer) (n + f₁ .steps) ])) (sym e)
+        ∙ sym (ap (λ (f : Figure). kept (more n f) (keeping (more n f) (opens u longer))) (ap (run u) same ∙ stays u l₁ (longer - l₁) e))
+    two-by false e =
+        let l₂ = min k (most - (n + f₁ .steps)) in
+        let sum : l₁ + l₂ ≡ longer = omega (arith, all-taken u l₁ e) in
+        ap₂ (λ (f : Figure) (o : List Open). kept f (keeping f o))
+        (more-more n (f₁ .steps) (run (resumed t (opens u l₁)) l₂) ∙ ap (more n) (two-figure t os l₁ l₂ ∙ ap (run u) sum))
+        (two-opens t os l₁ l₂ ∙ ap (opens u) sum)
+
+  -- two sittings are one
+  pub two : (s : Saved) (l k : ℕ) → sitting t (sitting t s l .saved) k ≡ sitting t s (l + k)
+  unfolding sitting
+  two (complete f) l k = refl
+  two (begun os n) l k = two-by os n l k (f₁ os n l k .finished) refl
+
+  -- several sittings are one
+  pub totals : (s : Saved) (ls : List ℕ) (k : ℕ) → sitting t (savedAfter t s ls) k ≡ sitting t s (altogether ls + k)
+  unfolding savedAfter altogether
+  totals s [] k = ap (sitting t s) (sym (zero-add k))
+  totals s (l ∷ ls) k = totals (sitting t s l .saved) ls k ∙ two s l (altogether ls + k) ∙ ap (sitting t s) (sym (add-assoc l (altogether ls) k))
+
+  -- what several sittings leave is what one leaves
+  pub saved-one : (s : Saved) (l : ℕ) (ls : List ℕ) → savedAfter t s (l ∷ ls) ≡ sitting t s (altogether (l ∷ ls)) .saved
+  unfolding savedAfter altogether
+  saved-one s l [] = ap (λ n. sitting t s n .saved) (sym (add-zero l))
+  saved-one s l (m ∷ ls) = saved-one (sitting t s l .saved) m ls ∙ ap (λ (x : Sitting). x .saved) (two s l (altogether (m ∷ ls)))
+
+-- ---- from nothing
+
+-- a limit past the most steps is the most steps
+capped : (g : Network) (n : ℕ) → sitting (tree g) nothing n ≡ sitting (tree g) nothing (min n most)
+unfolding sitting resumed
+capped g n =
+    let same : min n most ≡ min (min n most) most = omega arith in
+    ap (λ j. kept (more 0 (run (tree g) j)) (keeping (more 0 (run (tree g) j)) (opens (tree g) j))) same
+
+module _ (g : Network) (ls : List ℕ) (k : ℕ) where
+  -- the rule's figure under the total, or under a million steps
+  pub total-figure : sitting (tree g) (savedAfter (tree g) nothing ls) k .answer ≡ figure g (min (altogether ls + k) most)
+  unfolding sitting resumed
+  total-figure = ap (λ (s : Sitting). s .answer) (totals (tree g) nothing ls k) ∙ more-zero (run (tree g) (min (altogether ls + k) most))
+
+  -- and what one such sitting sets aside
+  pub total-saved : sitting (tree g) (savedAfter (tree g) nothing ls) k .saved ≡ sitting (tree g) nothing (min (altogether ls + k) most) .saved
+  total-saved = ap (λ (s : Sitting). s .saved) (totals (tree g) nothing ls k ∙ capped g (altogether ls + k))
+
+pub first-figure : (g : Network) (limit : ℕ) → limit ≤ most → sitting (tree g) nothing limit .answer ≡ figure g limit
+unfolding sitting resumed
+first-figure g limit h =
+    let same : min limit most ≡ limit = omega arith in
+    more-zero (run (tree g) (min limit most)) ∙ ap (run (tree g)) same
+
+-- ---- a carried run
+
+-- n steps so far, and the splits still to take, against the sitting's limit and the most steps
+module _ (t : Tree) (os : List Open) (n limit : ℕ) (h : n ≤ most) where
+  abbrev answer : Figure
+  answer = sitting t (begun os n) limit .answer
+
+  abbrev wanted : ℕ
+  wanted = n + splits (resumed t os)
+
+  pub carried-steps : answer .steps ≡ min wanted (min (n + limit) most)
+  unfolding sitting
+  carried-steps = omega (arith, steps (resumed t os) (min limit (most - n)))
+
+  pub carried-finished : answer .finished ≡ leb wanted (min (n + limit) most)
+  unfolding sitting
+  carried-finished = finished (resumed t os) (min limit (most - n)) ∙ go (leb wanted (min (n + limit) most)) refl
+    where
+      go : (c : Bool) → leb wanted (min (n + limit) most) ≡ c → leb (splits (resumed t os)) (min limit (most - n)) ≡ c
+      go true e = le-leb (splits (resumed t os)) (min limit (most - n)) (omega (arith, leb-true wanted (min (n + limit) most) e))
+      go false e = lt-leb (splits (resumed t os)) (min limit (most - n)) (omega (arith, leb-false wanted (min (n + limit) most) e))
+
+  -- never past the most steps, nor past the limit in this sitting
+  pub at-most : (answer .steps ≤ most) × (answer .steps ≤ n + limit)
+  at-most = let e = carried-steps in (omega arith, omega arith)
+
+-- ---- what sittings from nothing leave
+
+-- open splits and steps so far
+pub record Begun (g : Network) (os : List Open) (n : ℕ) : Type 0 where
+  pub traces : traced (tree g) os ≡ true
+  pub in-order : Known InOrder os
+  pub in-range : Known InRange os
+  pub few : length os ≤ length (g .links)
+  pub within : n ≤ most
+
+-- the answer: the figure under some limit
+pub record Complete (g : Network) (f : Figure) : Type 0 where
+  pub limit : ℕ
+  pub within : limit ≤ most
+  pub same : f ≡ figure g limit
+  pub order : f .low ≤ f .high
+  pub range : f .high ≤ S
+  pub few : f .steps ≤ most
+
+abbrev pub Fits : Network → Saved → Type 0
+Fits g (begun os n) = Begun g os n
+Fits g (complete f) = Complete g f
+
+module _ (g : Network) (valid : Valid g) where
+  pub nothing-fits : Fits g nothing
+  unfolding traced
+  nothing-fits = record { traces = refl; in-order = tt; in-range = tt; few = zero-le; within = zero-le }
+
+  one-fits : (limit : ℕ) → Fits g (sitting (tree g) nothing limit .saved)
+  unfolding sitting resumed
+  one-fits limit = go (run (tree g) j .finished)
+    where
+      j : ℕ
+      j = min limit most
+
+      go : (c : Bool) → Fits g (elim c [ true ↦ complete (more 0 (run (tree g) j)) | false ↦ begun (opens (tree g) j) (0 + run (tree g) j .steps) ])
+      go true =
+          let e = steps (tree g) j in
+          record { limit = j; within = omega arith; same = more-zero (run (tree g) j); order = low-high g valid j; range = high-range g valid j; few = omega arith }
+      go false =
+          let e = steps (tree g) j in
+          record {
+            traces = traced-opens (tree g) j;
+            in-order = tree-ordered g valid j;
+            in-range = tree-in-range g valid j;
+            few = le-trans (opens-depth (tree g) j) (tree-depth g valid);
+            within = omega arith;
+          }
+
+  -- so what is saved passes every check of saved work again
+  pub saved-fits : (ls : List ℕ) → Fits g (savedAfter (tree g) nothing ls)
+  unfolding savedAfter
+  saved-fits [] = nothing-fits
+  saved-fits (l ∷ ls) = subst (Fits g) (sym (saved-one (tree g) nothing l ls)) (one-fits (altogether (l ∷ ls)))
