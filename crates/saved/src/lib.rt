@@ -125,10 +125,10 @@ pub fn row_of(b: &[u8]) -> [u32; 192]
     let mut row = [0u32; 192];
     let mut i = 0;
     while i < c {
-        let at = 8 + 4 * c + 8 * i;
+        let pair = 8 + 4 * c + 8 * i;
         row[3 * i] = words::word32(b, 8 + 4 * i);
-        row[3 * i + 1] = words::word32(b, at);
-        row[3 * i + 2] = words::word32(b, at + 4);
+        row[3 * i + 1] = words::word32(b, pair);
+        row[3 * i + 2] = words::word32(b, pair + 4);
         i += 1;
     }
     row
@@ -154,9 +154,9 @@ fn put_pairs(work: &mut [u8], row: &[u32; 192], c: usize)
 {
     let mut i = 0;
     while i < c {
-        let at = 8 + 4 * c + 8 * i;
-        words::put_word32(work, at, row[3 * i + 1]);
-        words::put_word32(work, at + 4, row[3 * i + 2]);
+        let to = 8 + 4 * c + 8 * i;
+        words::put_word32(work, to, row[3 * i + 1]);
+        words::put_word32(work, to + 4, row[3 * i + 2]);
         i += 1;
     }
 }

@@ -25,17 +25,17 @@ loop-holds c =
     let w = begun-means (c .before .before .args .b .now) (c .before .before .pre .0) (c .before .before .pre .1) in
     (omega arith, omega arith, omega arith, refl, λ j h. absurd (omega arith))
 
-mul-at : tie.Need-mul-at Inv-loop μ-loop
-mul-at c = search needs
+mul-pair : tie.Need-mul-pair Inv-loop μ-loop
+mul-pair c = search needs
 
-add-at : tie.Need-add-at Inv-loop μ-loop
-add-at c = search needs
+add-pair : tie.Need-add-pair Inv-loop μ-loop
+add-pair c = search needs
 
-mul-at-2 : tie.Need-mul-at-2 Inv-loop μ-loop
-mul-at-2 c = search needs
+mul-pair-2 : tie.Need-mul-pair-2 Inv-loop μ-loop
+mul-pair-2 c = search needs
 
-add-at-2 : tie.Need-add-at-2 Inv-loop μ-loop
-add-at-2 c = search needs
+add-pair-2 : tie.Need-add-pair-2 Inv-loop μ-loop
+add-pair-2 c = search needs
 
 mul-word32 : tie.Need-mul-word32 Inv-loop μ-loop
 mul-word32 c = search needs
@@ -112,10 +112,10 @@ row-of-spec =
     μ-loop
     count-of-requires
     loop-holds
-    mul-at
-    add-at
-    mul-at-2
-    add-at-2
+    mul-pair
+    add-pair
+    mul-pair-2
+    add-pair-2
     mul-word32
     add-word32
     word32-requires
