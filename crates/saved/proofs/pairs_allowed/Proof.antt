@@ -46,7 +46,7 @@ pair-allowed-requires c κs = search needs
 returns : tie.Need-returns Inv-loop μ-loop
 returns c =
     let w = c .before .before .before .before in
-    pair-refused _ _ _ _ _ _ (w .before .before .count-of .ensures) (w .loop-test .taken) (c .before .before .before .word32 .ensures) (c .before .before .word322 .ensures) (c .before .pair-allowed .ensures) (c .if1 .taken) ∙ sym (w .before .loop .inv .1)
+    pair-refused (w .before .before .before .before .args .b .now) (w .before .before .count-of .result) (w .before .loop .i) (c .before .before .before .word32 .result) (c .before .before .word322 .result) (c .before .pair-allowed .result) (w .before .before .count-of .ensures) (w .loop-test .taken) (c .before .before .before .word32 .ensures) (c .before .before .word322 .ensures) (c .before .pair-allowed .ensures) (c .if1 .taken) ∙ sym (w .before .loop .inv .1)
 
 add-i : tie.Need-add-i Inv-loop μ-loop
 add-i c = search needs
@@ -57,7 +57,7 @@ loop-less c = search needs
 loop-again : tie.Need-loop-again Inv-loop μ-loop
 loop-again c =
     let w = c .before .before .before .before in
-    (search needs, w .before .loop .inv .1 ∙ pair-passed _ _ _ _ _ _ (w .before .before .count-of .ensures) (w .loop-test .taken) (c .before .before .before .word32 .ensures) (c .before .before .word322 .ensures) (c .before .pair-allowed .ensures) (c .if1 .left))
+    (search needs, w .before .loop .inv .1 ∙ pair-passed (w .before .before .before .before .args .b .now) (w .before .before .count-of .result) (w .before .loop .i) (c .before .before .before .word32 .result) (c .before .before .word322 .result) (c .before .pair-allowed .result) (w .before .before .count-of .ensures) (w .loop-test .taken) (c .before .before .before .word32 .ensures) (c .before .before .word322 .ensures) (c .before .pair-allowed .ensures) (c .if1 .left))
 
 returns-2 : tie.Need-returns-2 Inv-loop μ-loop
 returns-2 c = sym (c .before .loop .inv .1 ∙ pairs-passed _ _ _ (omega arith))

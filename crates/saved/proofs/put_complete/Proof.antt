@@ -1,6 +1,7 @@
 use mathlib.Core.Path.{ap, _∙_}
 use mathlib.Core.List.{_++_}
 use borrow.Author.Needs.{needs}
+use mir.Val.{boolByte}
 use Rattle.words.specs.Words.{le2, le4}
 use Rattle.figures.proofs.Marks.{as-byte}
 use Rattle.saved.specs.Format.{savedBytes, over}
@@ -47,7 +48,7 @@ returns c =
     let q₁ = q₂ .before .before .before .before in
     let f = q₁ .before .before .before .args .f in
     let b = q₁ .before .before .before .args .work .now in
-    complete-put b (q₁ .put-word16 .last .0) (q₂ .put-word162 .last .0) (q₃ .put-word32 .last .0) (q₄ .put-word322 .last .0) (q₅ .put-word323 .last .0) (q₆ .put-word324 .last .0) (q₇ .put-word325 .last .0) _ _ _ _
+    complete-put b (q₁ .put-word16 .last .0) (q₂ .put-word162 .last .0) (q₃ .put-word32 .last .0) (q₄ .put-word322 .last .0) (q₅ .put-word323 .last .0) (q₆ .put-word324 .last .0) (q₇ .put-word325 .last .0) (f .steps) (f .low) (f .high) (boolByte (f .finished))
     (q₁ .put-word16 .ensures) (q₂ .put-word162 .ensures) (q₃ .put-word32 .ensures) (q₄ .put-word322 .ensures) (q₅ .put-word323 .ensures) (q₆ .put-word324 .ensures) (q₇ .put-word325 .ensures)
     ∙ ap (λ t. over (le2 0 ++ le2 1 ++ le4 (f .steps) ++ (le4 (f .low) ++ le4 (f .high) ++ le4 (f .steps) ++ le4 t)) b) (as-byte (f .finished))
 

@@ -97,7 +97,7 @@ loop-less c = search needs
 loop-again : tie.Need-loop-again Inv-loop μ-loop
 loop-again c =
     let w = c .before .before .before in
-    (omega arith, omega arith, omega arith, simp (length-set, length-set, length-set) (w .before .loop .inv .3), held-more (w .before .before .before .before .args .b .now) (w .before .loop .row) _ _ _ _ _ (w .before .loop .inv .3) (omega arith) (w .before .before .count-of .ensures) (c .before .before .word32 .ensures) (c .before .word322 .ensures) (c .word323 .ensures) (w .before .loop .inv .4))
+    (omega arith, omega arith, omega arith, simp (length-set, length-set, length-set) (w .before .loop .inv .3), held-more (w .before .before .before .before .args .b .now) (w .before .loop .row) (w .before .before .count-of .result) (w .before .loop .i) (c .before .before .word32 .result) (c .before .word322 .result) (c .word323 .result) (w .before .loop .inv .3) (omega arith) (w .before .before .count-of .ensures) (c .before .before .word32 .ensures) (c .before .word322 .ensures) (c .word323 .ensures) (w .before .loop .inv .4))
 
 returns : tie.Need-returns Inv-loop μ-loop
 returns c =
