@@ -34,7 +34,16 @@ fn follow<'r>(
         Next::End(v, i) => {
             let r = network::assembled(alive, nodes, at, a, b, low, high).end(v, i);
             follow(
-                r.alive, r.nodes, &r.at, &r.a, &r.b, &r.low, &r.high, row, k, left,
+                r.alive,
+                r.nodes,
+                &r.at,
+                &r.a,
+                &r.b,
+                &r.low,
+                &r.high,
+                row,
+                k,
+                left,
             )
         }
         Next::Series(v, i, j) => {
@@ -42,7 +51,16 @@ fn follow<'r>(
                 .series(v, i, j)
                 .parallel();
             follow(
-                r.alive, r.nodes, &r.at, &r.a, &r.b, &r.low, &r.high, row, k, left,
+                r.alive,
+                r.nodes,
+                &r.at,
+                &r.a,
+                &r.b,
+                &r.low,
+                &r.high,
+                row,
+                k,
+                left,
             )
         }
         Next::Split(i) => {
@@ -96,5 +114,16 @@ pub fn traces(net: Network, row: &[u32; 192], left: usize) -> bool
         return left == 0;
     }
     let r = n.parallel();
-    follow(r.alive, r.nodes, &r.at, &r.a, &r.b, &r.low, &r.high, row, 0, left)
+    follow(
+        r.alive,
+        r.nodes,
+        &r.at,
+        &r.a,
+        &r.b,
+        &r.low,
+        &r.high,
+        row,
+        0,
+        left,
+    )
 }
