@@ -16,11 +16,12 @@ use Rattle.rounding.specs.declared.Direction.the-variants.{Down, Up}
 use Rattle.words.specs.Words.{word32, le2, le4}
 use Rattle.words.proofs.Laws.{whole32, behind32}
 use Rattle.reliability.specs.declared.Figure.{Figure}
+use Rattle.answers.specs.Answers.{answerBytes}
 use Rattle.sittings.specs.Sittings.{Open, running, known, begun, complete, nothing, most}
 use Rattle.sittings.specs.Entries.{entries, pair, entered, Known, InRange, InOrder}
 use Rattle.sittings.proofs.Asides.{entries-length}
 use Rattle.sittings.proofs.Rows.{running-again, known-again}
-use Rattle.saved.specs.Format.{countIn, stateIn, takenIn, placeIn, pairLow, pairHigh, opensFrom, opensOf, pairAllowed, pairsAllowed, begunWell, completeWell, wellFormed, words, places, pairs, answerBytes, savedBytes, rowPlaces, rowPairs, begunBytes}
+use Rattle.saved.specs.Format.{countIn, stateIn, takenIn, placeIn, pairLow, pairHigh, opensFrom, opensOf, pairAllowed, pairsAllowed, begunWell, completeWell, wellFormed, words, places, pairs, savedBytes, rowPlaces, rowPairs, begunBytes}
 use Rattle.saved.proofs.Reading.{allowed-ordered, begun-pairs, formed-begun}
 use Rattle.saved.proofs.Writing.{words-size}
 
