@@ -106,6 +106,16 @@ begun-means b e z = ⊎-elim (λ w. begun-parts b w .1 steps) (λ w. let f = com
 pub complete-means : (b : List ℕ) → wellFormed b ≡ true → (stateIn b ≡ 0 → ⊥) → CompleteWork b
 complete-means b e h = ⊎-elim (λ w. absurd (h (begun-parts b w .0))) (λ w. complete-parts b w (parts b e .0)) (parts b e .1)
 
+-- eight bytes at least, and begun where it is not complete
+pub formed-size : (b : List ℕ) → wellFormed b ≡ true → 8 ≤ length b
+unfolding wellFormed
+formed-size b e =
+    let front = and-true (leb 8 (length b) && leb (takenIn b) most) (begunWell b || completeWell b) e .0 in
+    leb-true 8 (length b) (and-true (leb 8 (length b)) (leb (takenIn b) most) front .0)
+
+pub begun-else : (b : List ℕ) → wellFormed b ≡ true → (stateIn b ≡ 1 → ⊥) → stateIn b ≡ 0
+begun-else b e h = ⊎-elim (λ w. begun-parts b w .0) (λ w. absurd (h (complete-parts b w (parts b e .0) .state))) (parts b e .1)
+
 -- ---- sizes
 
 place-count : (os : List Open) → length (places os) ≡ length os
