@@ -1,7 +1,7 @@
-/* Works a plan in sittings of 1,000 steps: sittings PLAN SAVED [compare]. Each run is one sitting. It carries on the work that the
-   file SAVED holds, or begins if there is no such file, prints the answer so far and writes the file anew. With the word compare
-   it also prints what one run of as many steps answers. Exit status: 0 if all is answered, 1 if a call is refused, 2 if the
-   words are wrong or a file cannot be read or written. */
+/* Works a plan in sittings of 1,000 steps: sittings PLAN SAVED [compare]. Each run is one sitting. It carries on the work
+   that the file SAVED holds, or begins if there is no such file, prints the answer so far and writes the file anew. With
+   the word compare it also prints what one run of as many steps answers. Exit status: 0 if all is answered, 1 if a call is
+   refused, 2 if the words are wrong or a file cannot be read or written. */
 
 #include "print.h"
 

@@ -1,7 +1,7 @@
-/* Makes calls for a test. Each call is read from standard input: seven 64-bit numbers (which call, limit, place, and the lengths of
-   the answer buffer, of plan A, of plan B or the saved work, and of the work buffer), and then the contents of these four. The
-   number returned and the contents of both buffers are written to standard output. Every plan and every buffer has a block of
-   memory of its own, of just its size, so that a memory checker sees a byte read or written outside. */
+/* Makes calls for a test. Each call is read from standard input: seven 64-bit numbers (which call, limit, place, and the
+   lengths of the answer buffer, of plan A, of plan B or the saved work, and of the work buffer), and then the contents of
+   these four. The number returned and the contents of both buffers are written to standard output. Every plan and every
+   buffer has a block of memory of its own, of just its size, so that a memory checker sees a byte read or written outside. */
 
 #include "plandesk.h"
 

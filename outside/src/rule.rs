@@ -64,7 +64,7 @@ pub struct Network {
     links: Vec<Link>,
 }
 
-/// A split: the place of its link, counted from 0 among the links then left, the link, and the networks of both branches.
+/// A split: its link and the link's place, counted from 0 among the links then left, and both branches.
 #[derive(Clone, Debug)]
 pub(crate) struct Split {
     pub place: u32,

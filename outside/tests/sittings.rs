@@ -212,6 +212,18 @@ fn large_plans() {
     assert!(unfinished > 10, "{unfinished}");
 }
 
+/// Each two nodes joined, at the steps needed and at one less, in sittings of a third of them.
+#[test]
+fn complete_graphs() {
+    let mut random = Random::new(93);
+    for (nodes, needed) in [(9, 5_039), (10, 40_319), (11, 362_879)] {
+        let file = with_values(&mut random, Plan::complete(nodes, 0)).bytes();
+        let third = needed / 3;
+        hold_sittings(&file, &[third, third, needed - 1 - 2 * third]);
+        hold_sittings(&file, &[third, third, needed - 2 * third]);
+    }
+}
+
 /// A total past the most steps is cut, and what is cut stays as it is.
 #[test]
 fn the_mesh_past_the_most_steps() {
