@@ -128,7 +128,6 @@ claims t = (
   of-broken-reads.Learnt,
 )
 
-
 -- what is known after the step was found
 abbrev Told : ℕ → Type 0
 Told t = run-lts.After-step (claims t) (run-at t) run.Post
@@ -680,22 +679,26 @@ module _ (t : ℕ) (m : Met t) where
       (k : run-lts.After-known-at·own (claims t) (run-at t) run.Post (record { before = record { before = at; if3 = e }; known-at-arg = a })) → m .if3 .row ≡ given-row → m .if3 .sound ≡ k .result → SoundWorked
   known-given e a k rows sounds =
       let w = known-worked (knownPair given-row (depth-at t at)) (limit t at - own t at) given-row (suc (depth-at t at)) (k .result) (k .ensures .0) (k .ensures .1) in
-      let u = subst (λ (b : Bool). Worked (soundOf (tree (sound t (state t at))) given-row (depth-at t at) (inner t at) b) (limit t at - own t at) given-row (suc (depth-at t at)) (k .result) given-row) (sym (e .taken)) w in
-      (subst (λ (r : List ℕ). Worked (S₁ t at) (limit t at - own t at) given-row (suc (depth-at t at)) (m .if3 .sound) r) (sym rows)
-      (subst (λ (c : Carried). Worked (S₁ t at) (limit t at - own t at) given-row (suc (depth-at t at)) c given-row) (sym sounds) u), λ i. rows)
+      let u = subst (λ (b : Bool). Worked (soundOf (tree (sound t (state t at))) given-row (depth-at t at) (inner t at) b) (limit t at - own t at) given-row (suc (depth-at t at)) (k .result) given-row) (sym (e .taken)) w in (
+        subst (λ (r : List ℕ). Worked (S₁ t at) (limit t at - own t at) given-row (suc (depth-at t at)) (m .if3 .sound) r) (sym rows)
+            (subst (λ (c : Carried). Worked (S₁ t at) (limit t at - own t at) given-row (suc (depth-at t at)) c given-row) (sym sounds) u),
+        λ i. rows,
+      )
 
   -- it is worked
   ran-given : (e : isIt t at ≡ false) (c : Carried) (after : List ℕ)
       → Worked (soundOf (tree (sound t (state t at))) given-row (depth-at t at) (inner t at) false) (limit t at - own t at) given-row (suc (depth-at t at)) c after
       → m .if3 .row ≡ after → m .if3 .sound ≡ c → SoundWorked
   ran-given e c after w rows sounds =
-      let u = subst (λ (b : Bool). Worked (soundOf (tree (sound t (state t at))) given-row (depth-at t at) (inner t at) b) (limit t at - own t at) given-row (suc (depth-at t at)) c after) (sym e) w in
-      (subst (λ (r : List ℕ). Worked (S₁ t at) (limit t at - own t at) given-row (suc (depth-at t at)) (m .if3 .sound) r) (sym rows)
-      (subst (λ (d : Carried). Worked (S₁ t at) (limit t at - own t at) given-row (suc (depth-at t at)) d after) (sym sounds) u), λ i. absurd (true≢false (sym i ∙ e)))
+      let u = subst (λ (b : Bool). Worked (soundOf (tree (sound t (state t at))) given-row (depth-at t at) (inner t at) b) (limit t at - own t at) given-row (suc (depth-at t at)) c after) (sym e) w in (
+        subst (λ (r : List ℕ). Worked (S₁ t at) (limit t at - own t at) given-row (suc (depth-at t at)) (m .if3 .sound) r) (sym rows)
+            (subst (λ (d : Carried). Worked (S₁ t at) (limit t at - own t at) given-row (suc (depth-at t at)) d after) (sym sounds) u),
+        λ i. absurd (true≢false (sym i ∙ e)),
+      )
 
   sound-given : SoundWorked
   sound-given = elim (m .if3 .came) [
-    inl x ↦ known-given (x .0) (x .1) (x .2) (x .3) (x .4)
+    | inl x ↦ known-given (x .0) (x .1) (x .2) (x .3) (x .4)
     | inr x ↦ ran-given (x .0 .left) (x .11 .result) _ (ran-worked t (record { before = record { before = record { before = record { before = record { before = record { before = record { before = record { before = record { before = record { before = record { before = record { before = at; if3 = x .0 }; assembled3 = x .1 }; contracted = x .2 }; parallel2 = x .3 }; s = x .4 }; run-arg13 = x .5 }; run-arg14 = x .6 }; run-arg15 = x .7 }; run-arg16 = x .8 }; run-arg17 = x .9 }; run-arg18 = x .10 }; run3 = x .11 })) (x .12) (x .13)
   ]
 
