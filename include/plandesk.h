@@ -1,4 +1,4 @@
-/* The plan calculator's four calls.
+/* The plan calculator's five calls.
 
    A plan file, all numbers little-endian: n (16 bits), m (16 bits); m pairs of one-byte ends, numbered from 0; m values of
    32 bits. Its length is 4 + 6 * m; n is 1 to 32, m is 0 to 64. A value of 0 to S = 1,000,000,000 is a link's chance in
@@ -9,10 +9,10 @@
    than high, finished or not.
 
    Each call returns 0 if it is accepted, and otherwise the number of the first cause of refusal that it meets, in the order
-   of this table. A refused call leaves the whole answer buffer as it was.
+   of this table. A refused call leaves the whole answer buffer as it was, and the whole work buffer.
 
      7             the limit is above 1,000,000
-     9             the answer buffer is under 16 bytes
+     9             the answer buffer is under 16 bytes, or the work buffer under 776
      1             the file is under 4 bytes
      2             n is 0 or above 32
      3             m is above 64
@@ -20,12 +20,14 @@
      5 + 256 * i   link i has an end n or above
      6 + 256 * i   link i has a value from S + 1 to 2,147,483,647, or k above 511
      8             the link place is m or above
+     10            the saved work has a wrong form
+     11            an open split of the saved work is not one that the rule comes to on this plan
 
-   Links are tested in order, 5 before 6 at each.
+   Links are tested in order, 5 before 6 at each. 8 is of importance alone; the work buffer, 10 and 11 are of sitting alone.
 
    A call asks that each pointer stands for as many bytes as the length behind it says (any pointer will do where that is
-   0), and that the answer buffer shares no byte with a plan. It allocates nothing and keeps nothing, so it is safe from
-   several threads at once; each needs a stack of 512 KiB for it.
+   0), and that a buffer that is written to shares no byte with another buffer, a plan or saved work. It allocates nothing
+   and keeps nothing, so it is safe from several threads at once; each needs a stack of 512 KiB for it.
 
    How long a call takes goes by its steps. At the limit of 1,000,000 the mesh of 32 nodes and 64 links (plans/mesh.plan)
    took figure about 0.4 seconds on one core of x86-64, and importance and difference, which work two networks, up to 0.8.
@@ -41,8 +43,9 @@
 extern "C" {
 #endif
 
-/* The bytes of an answer, the largest limit, one in units, and the value of a length of 0. */
+/* The bytes of an answer, the bytes of a work buffer, the largest limit, one in units, and the value of a length of 0. */
 #define PLANDESK_ANSWER 16
+#define PLANDESK_WORK 776
 #define PLANDESK_MOST_STEPS 1000000
 #define PLANDESK_ONE 1000000000
 #define PLANDESK_LENGTH 2147483648u
@@ -66,6 +69,49 @@ uint64_t importance(const uint8_t *plan, size_t plan_len, uint64_t place, uint64
    26 + 256 * i. */
 uint64_t difference(const uint8_t *plan_a, size_t plan_a_len, const uint8_t *plan_b, size_t plan_b_len, uint64_t limit,
                     uint8_t *answer, size_t answer_len);
+
+/* The figure, carried on from saved work and set aside again: answer gets the answer so far, work the saved work for the
+   next sitting. The first sitting of a plan is handed eight zero bytes, each later one what the one before wrote, at its
+   length.
+
+   A sitting takes at most its limit in steps, and at most what the steps so far leave of 1,000,000: a total past
+   1,000,000 is cut and not refused. The steps of the answer are the total so far. A first sitting answers as figure does
+   under its limit. Sittings one after the other end with the answer of figure under the sum of their limits, or under
+   1,000,000 if that is less, and with the saved work of one first sitting under that limit. Work stopped by the 1,000,000
+   stays begun, and later sittings give the same answer and the same saved work.
+
+   Saved work, all numbers little-endian, with c open splits:
+
+     byte                bits      holds
+     0                   16        c, 0 to 64
+     2                   16        the state: 0 begun, 1 complete
+     4                   32        the steps so far, 0 to 1,000,000
+     if it is begun, for the open splits i = 0 to c - 1, the outermost first:
+     8 + 4 * i           32        the place of its link, counted from 0 among the links then left
+     8 + 4 * c + 8 * i   32, 32    the low and the high of its sound branch, or 1 and 0 while that branch runs
+     if it is complete, where c is 0:
+     8                   4 x 32    the answer
+
+   So 8 + 12 * c bytes are written where the work is begun and 24 where it is complete. 776 are always enough, and the
+   bytes behind those written keep their contents. A run is set aside at the first split for which no step is left, so a
+   limit of 0 writes the same begun work again, the eight zero bytes too; but a plan that needs no split is complete at
+   once. Complete work is not worked again, whatever the limit: its last 16 bytes are the answer, and its 24 bytes are
+   written as they came.
+
+   Saved work is refused by 10 if its length is not 8 + 12 * c where it is begun, or 24 where it is complete (so a whole
+   buffer handed back is refused, unless c is 64); if c is above 64, or above 0 where it is complete; if the state is
+   neither 0 nor 1; if the steps are above 1,000,000; if a low or a high of an open split is above S, or a low is above
+   its high, but for 1 and 0. It is refused by 11 if the rule, followed from the plan, comes to no split where one is
+   open, or to one at another place; 1 and 0 say that the next open split lies in the sound branch, every other pair that
+   it lies in the broken one. All of 10 is tested before 11.
+
+   What is said of answers holds for saved work that came from earlier sittings of this very plan. Other bytes are tested
+   as far as 10 and 11 say and no further: not whether the steps go with the open splits, nor whether the figures of an
+   open split or the 16 bytes of complete work are right. They get an answer or a refusal, and no more is promised of it.
+
+   Returns 0, or 7, 9, 1 to 4, 5 + 256 * i, 6 + 256 * i, 10 or 11. A refused sitting leaves both buffers as they were. */
+uint64_t sitting(const uint8_t *plan, size_t plan_len, uint64_t limit, const uint8_t *saved, size_t saved_len,
+                 uint8_t *answer, size_t answer_len, uint8_t *work, size_t work_len);
 
 #ifdef __cplusplus
 }

@@ -10,12 +10,14 @@ static int refused(uint64_t returned)
 int main(void)
 {
     static const uint8_t plan[] = {2, 0, 1, 0, 0, 1, 0x00, 0xca, 0x9a, 0x3b};
-    uint8_t answer[PLANDESK_ANSWER] = {0};
+    static const uint8_t nothing[8] = {0};
+    uint8_t answer[PLANDESK_ANSWER] = {0}, work[PLANDESK_WORK] = {0};
     uint64_t limit = PLANDESK_MOST_STEPS;
     int wrong = refused(check(plan, sizeof plan));
     wrong |= refused(figure(plan, sizeof plan, limit, answer, sizeof answer));
     wrong |= refused(importance(plan, sizeof plan, 0, limit, answer, sizeof answer));
     wrong |= refused(difference(plan, sizeof plan, plan, sizeof plan, limit, answer, sizeof answer));
+    wrong |= refused(sitting(plan, sizeof plan, limit, nothing, sizeof nothing, answer, sizeof answer, work, sizeof work));
     wrong |= !refused(check(plan, sizeof plan - 1));
     return wrong | (PLANDESK_ONE != 1000000000) | (PLANDESK_LENGTH != 2147483648u);
 }

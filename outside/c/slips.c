@@ -1,9 +1,9 @@
-/* The four calls with one slip, which the variable SLIP chooses; the calls without it stand under other names. Linked in the
+/* The five calls with one slip, which the variable SLIP chooses; the calls without it stand under other names. Linked in the
    place of the library by examples/slips.rs, which names the slips.
 
-   SLIP is the number of a kind and seven more numbers. Of kinds 0 and 1: the call (0 check, 1 figure, 2 importance,
-   3 difference), what is wrong, by how much; and where: of an answer (kind 0) the least and the most links, whether it is
-   finished, the least and the most steps; of a refusal (kind 1) its number without the link. Of other kinds: none. */
+   SLIP is the number of a kind and eight more numbers. Of kinds 0 and 1: the call (0 check, 1 figure, 2 importance,
+   3 difference, 4 sitting), what is wrong, by how much; and where: of an answer (kind 0) the least and the most links, whether
+   it is finished, the least and the most steps; of a refusal (kind 1) its number without the link. Of other kinds: none. */
 
 #include "plandesk.h"
 
@@ -18,10 +18,14 @@ uint64_t proved_importance(const uint8_t *plan, size_t plan_len, uint64_t place,
                            size_t answer_len);
 uint64_t proved_difference(const uint8_t *plan_a, size_t plan_a_len, const uint8_t *plan_b, size_t plan_b_len, uint64_t limit,
                            uint8_t *answer, size_t answer_len);
+uint64_t proved_sitting(const uint8_t *plan, size_t plan_len, uint64_t limit, const uint8_t *saved, size_t saved_len,
+                        uint8_t *answer, size_t answer_len, uint8_t *work, size_t work_len);
 
-enum { CHECK, FIGURE, IMPORTANCE, DIFFERENCE };
+enum { CHECK, FIGURE, IMPORTANCE, DIFFERENCE, SITTING };
 enum { LOW, HIGH, STEPS, FINISHED, BEHIND, PAST, RETURNED, FIRST, LAST };
+enum { WORK_BEHIND = LAST + 1, WORK_PAST, WORK_FIRST, WORK_LAST, WORK_END };
 
+/* Of a sitting b is the saved work. */
 struct call {
     long which;
     const uint8_t *a, *b;
@@ -29,6 +33,8 @@ struct call {
     uint64_t place, limit;
     uint8_t *answer;
     size_t room;
+    uint8_t *work;
+    size_t work_room;
 };
 
 static uint64_t proved(const struct call *c)
@@ -40,8 +46,10 @@ static uint64_t proved(const struct call *c)
         return proved_figure(c->a, c->a_len, c->limit, c->answer, c->room);
     case IMPORTANCE:
         return proved_importance(c->a, c->a_len, c->place, c->limit, c->answer, c->room);
-    default:
+    case DIFFERENCE:
         return proved_difference(c->a, c->a_len, c->b, c->b_len, c->limit, c->answer, c->room);
+    default:
+        return proved_sitting(c->a, c->a_len, c->limit, c->b, c->b_len, c->answer, c->room, c->work, c->work_room);
     }
 }
 
@@ -54,6 +62,12 @@ static void put(uint8_t *at, uint32_t number)
 {
     for (int i = 0; i < 4; i++)
         at[i] = number >> 8 * i;
+}
+
+/* How long saved work is by what it says. */
+static size_t length(const uint8_t *work)
+{
+    return work[2] == 0 ? 8 + 12 * (size_t)(work[0] | work[1] << 8) : 24;
 }
 
 /* Changes what a call returns or leaves. */
@@ -79,6 +93,24 @@ static uint64_t spoilt(const struct call *c, long what, long by, uint64_t return
         return returned;
     case FINISHED:
         put(c->answer + 12, word(c->answer + 12) ^ by);
+        return returned;
+    case WORK_BEHIND:
+        if (length(c->work) < c->work_room)
+            c->work[length(c->work)] ^= by;
+        return returned;
+    case WORK_PAST:
+        c->work[c->work_room] ^= by;
+        return returned;
+    case WORK_FIRST:
+        if (c->work_room > 0)
+            c->work[0] ^= by;
+        return returned;
+    case WORK_LAST:
+        if (c->work_room > 0)
+            c->work[c->work_room - 1] ^= by;
+        return returned;
+    case WORK_END:
+        c->work[length(c->work) - 1] ^= by;
         return returned;
     default:
         put(c->answer + 4 * what, word(c->answer + 4 * what) + by);
@@ -146,10 +178,154 @@ static int is_loop(const struct call *c)
     return proved_check(c->a, c->a_len) == 0 && c->place < c->a[2] && ends[0] == ends[1];
 }
 
+/* Whether saved work has the form of begun work, but for its pairs. */
+static int begun(const struct call *c)
+{
+    return c->b_len >= 8 && c->b[2] == 0 && c->b[3] == 0 && c->b[1] == 0 && c->b[0] <= 64 && c->b_len == length(c->b);
+}
+
+static int complete(const struct call *c)
+{
+    return c->b_len == 24 && c->b[2] == 1 && c->b[0] == 0 && c->b[1] == 0 && c->b[3] == 0;
+}
+
+/* The pairs of begun work. */
+static uint8_t *pair(uint8_t *work, size_t i)
+{
+    return work + 8 + 4 * work[0] + 8 * i;
+}
+
+static uint32_t low_of(uint8_t *work, size_t i)
+{
+    return word(pair(work, i));
+}
+
+static uint32_t high_of(uint8_t *work, size_t i)
+{
+    return word(pair(work, i) + 4);
+}
+
+static void put_pair(uint8_t *work, size_t i, uint32_t low, uint32_t high)
+{
+    put(pair(work, i), low);
+    put(pair(work, i) + 4, high);
+}
+
+static int runs(uint8_t *work, size_t i)
+{
+    return low_of(work, i) == 1 && high_of(work, i) == 0;
+}
+
+/* The slip of such a kind in the pairs. */
+static void change_pair(long kind, uint8_t *work, size_t i)
+{
+    uint32_t low = low_of(work, i), high = high_of(work, i);
+    if (kind == 52 && low <= high)
+        put_pair(work, i, 1, 0);
+    if (kind == 53 && runs(work, i))
+        put_pair(work, i, 0, 1000000000);
+    if (kind == 56 && !runs(work, i))
+        put_pair(work, i, 0, 1000000000);
+    if (kind == 58 && low > high && low <= 1000000000 && !runs(work, i))
+        put_pair(work, i, low, low);
+    if (kind == 59 && low == 1)
+        put_pair(work, i, 1, 0);
+}
+
+/* A sitting from other saved work, with so many steps added to what it leaves. */
+static uint64_t from(struct call *c, const uint8_t *saved, size_t saved_len, uint32_t added)
+{
+    c->b = saved;
+    c->b_len = saved_len;
+    uint64_t returned = proved(c);
+    if (returned == 0 && added != 0) {
+        put(c->answer + 8, word(c->answer + 8) + added);
+        put(c->work + 4, word(c->work + 4) + added);
+        if (c->work[2] == 1)
+            put(c->work + 16, word(c->answer + 8));
+    }
+    return returned;
+}
+
+/* Whether 11 is all that is wrong with a call, had it this saved work. */
+static int only_11(const struct call *c, const uint8_t *saved)
+{
+    uint8_t answer[16], work[776];
+    int asked = c->limit <= 1000000 && c->room >= 16 && c->work_room >= 776;
+    return asked && proved_sitting(c->a, c->a_len, 0, saved, c->b_len, answer, 16, work, 776) == 11;
+}
+
+/* Kinds of a sitting, on the way in. The saved work is changed in a copy. */
+static uint64_t other_sitting(struct call *c, const long *s)
+{
+    static const uint8_t nothing[8];
+    uint8_t copy[788] = {0};
+    if (c->b_len > sizeof copy)
+        return proved(c);
+    if (c->b_len > 0)
+        memcpy(copy, c->b, c->b_len);
+    size_t count = begun(c) ? copy[0] : 0;
+    uint32_t steps = c->b_len >= 8 ? word(copy + 4) : 0;
+    for (size_t i = 0; i < count; i++)
+        change_pair(s[0], copy, i);
+    switch (s[0]) {
+    case 50: /* begun work starts over */
+        return begun(c) && proved(c) == 0 ? from(c, nothing, 8, 0) : proved(c);
+    case 51: /* the steps are those of this sitting */
+        return begun(c) && steps + c->limit <= 1000000 ? from(c, copy, c->b_len, -steps) : proved(c);
+    case 52: /* known pairs are taken as running */
+    case 53: /* running pairs are taken as 0 to S */
+    case 58: /* a low above its high is accepted */
+    case 59: /* a low of 1 is the running mark */
+        return from(c, copy, c->b_len, 0);
+    case 54: /* a sitting goes past the most steps */
+        if (!begun(c) || steps > 1000000 || steps + c->limit <= 1000000)
+            return proved(c);
+        put(copy + 4, 0);
+        return from(c, copy, c->b_len, steps);
+    case 55: /* complete work is worked anew */
+        return complete(c) && proved(c) == 0 ? from(c, nothing, 8, 0) : proved(c);
+    case 56: /* 11 is tested before 10 */
+        return only_11(c, copy) ? 11 : proved(c);
+    case 57: /* the place of the second open split is not tested */
+        if (count > 1)
+            put(copy + 12, 0);
+        return from(c, copy, c->b_len, 0);
+    case 60: /* a state of 2 is begun */
+        copy[2] = c->b_len >= 8 && copy[2] == 2 && copy[3] == 0 ? 0 : copy[2];
+        return from(c, copy, c->b_len, 0);
+    case 61: /* longer saved work is accepted */
+        return from(c, copy, c->b_len > 8 && c->b_len > length(copy) ? length(copy) : c->b_len, 0);
+    case 62: /* no bytes are eight zero bytes */
+        return c->b_len == 0 ? from(c, nothing, 8, 0) : proved(c);
+    case 63: /* the limit is that of all sittings */
+        if (begun(c) && c->limit <= 1000000)
+            c->limit = c->limit > steps ? c->limit - steps : 0;
+        return proved(c);
+    case 64: /* a total past the most steps is refused */
+        return begun(c) && proved(c) == 0 && steps + c->limit > 1000000 ? 7 : proved(c);
+    case 65: /* saved work is refused before the plan */
+        return c->limit <= 1000000 && c->room >= 16 && c->work_room >= 776 && c->b_len < 8 ? 10 : proved(c);
+    case 66: /* a work buffer of 775 bytes is accepted */
+        c->work_room += c->work_room == 775;
+        return proved(c);
+    case 67: /* steps of 1,000,001 are accepted */
+        if (steps == 1000001)
+            put(copy + 4, 1000000);
+        return from(c, copy, c->b_len, 0);
+    case 68: /* 65 open splits are accepted */
+        return c->b_len == sizeof copy && copy[0] == 65 ? from(c, nothing, 8, 0) : proved(c);
+    default:
+        return proved(c);
+    }
+}
+
 /* The other kinds, on the way in. */
 static uint64_t otherwise(struct call *c, const long *s)
 {
     int called = c->which != CHECK;
+    if (s[0] >= 50)
+        return c->which == SITTING ? other_sitting(c, s) : proved(c);
     switch (s[0]) {
     case 2: /* a limit of 1,000,000 is refused */
         return called && c->limit == 1000000 ? 7 : proved(c);
@@ -267,6 +443,14 @@ static uint64_t afterwards(const struct call *c, const long *s, uint64_t returne
     case 46: /* a difference's high is one less where one evaluation is finished */
         put(c->answer + 4, high - (c->which == DIFFERENCE && one_ended(c)));
         break;
+    case 47: /* the bytes behind saved work are cleared */
+        if (c->which == SITTING)
+            memset(c->work + length(c->work), 0, c->work_room - length(c->work));
+        break;
+    case 48: /* the steps of saved work are one less */
+        if (c->which == SITTING && word(c->work + 4) > 0)
+            put(c->work + 4, word(c->work + 4) - 1);
+        break;
     case 139: /* the link is not returned */
         return returned % 256;
     case 140: /* a link above 31 is not returned */
@@ -276,6 +460,10 @@ static uint64_t afterwards(const struct call *c, const long *s, uint64_t returne
     case 142: /* 16 bytes are cleared on a refusal */
         if (c->which != CHECK && returned != 0)
             memset(c->answer, 0, c->room < 16 ? c->room : 16);
+        break;
+    case 149: /* the work buffer is cleared on a refusal */
+        if (c->which == SITTING && returned != 0)
+            memset(c->work, 0, c->work_room);
         break;
     }
     return returned;
@@ -301,22 +489,28 @@ static uint64_t slipped(struct call c)
 
 uint64_t check(const uint8_t *plan, size_t plan_len)
 {
-    return slipped((struct call){CHECK, plan, plan, plan_len, plan_len, 0, 0, NULL, 0});
+    return slipped((struct call){CHECK, plan, plan, plan_len, plan_len, 0, 0, NULL, 0, NULL, 0});
 }
 
 uint64_t figure(const uint8_t *plan, size_t plan_len, uint64_t limit, uint8_t *answer, size_t answer_len)
 {
-    return slipped((struct call){FIGURE, plan, plan, plan_len, plan_len, 0, limit, answer, answer_len});
+    return slipped((struct call){FIGURE, plan, plan, plan_len, plan_len, 0, limit, answer, answer_len, NULL, 0});
 }
 
 uint64_t importance(const uint8_t *plan, size_t plan_len, uint64_t place, uint64_t limit, uint8_t *answer,
                     size_t answer_len)
 {
-    return slipped((struct call){IMPORTANCE, plan, plan, plan_len, plan_len, place, limit, answer, answer_len});
+    return slipped((struct call){IMPORTANCE, plan, plan, plan_len, plan_len, place, limit, answer, answer_len, NULL, 0});
 }
 
 uint64_t difference(const uint8_t *plan_a, size_t plan_a_len, const uint8_t *plan_b, size_t plan_b_len, uint64_t limit,
                     uint8_t *answer, size_t answer_len)
 {
-    return slipped((struct call){DIFFERENCE, plan_a, plan_b, plan_a_len, plan_b_len, 0, limit, answer, answer_len});
+    return slipped((struct call){DIFFERENCE, plan_a, plan_b, plan_a_len, plan_b_len, 0, limit, answer, answer_len, NULL, 0});
+}
+
+uint64_t sitting(const uint8_t *plan, size_t plan_len, uint64_t limit, const uint8_t *saved, size_t saved_len,
+                 uint8_t *answer, size_t answer_len, uint8_t *work, size_t work_len)
+{
+    return slipped((struct call){SITTING, plan, saved, plan_len, saved_len, 0, limit, answer, answer_len, work, work_len});
 }

@@ -24,10 +24,11 @@ fn slip(name: String, numbers: &[i64]) -> Slip {
     Slip { name, numbers }
 }
 
-const CALLS: [&str; 4] = ["check", "figure", "importance", "difference"];
+const CALLS: [&str; 5] = ["check", "figure", "importance", "difference", "sitting"];
 const CHECK: usize = 0;
 const IMPORTANCE: usize = 2;
 const DIFFERENCE: usize = 3;
+const SITTING: usize = 4;
 
 /// More steps than most tests take.
 const MANY: i64 = 50_000;
@@ -45,6 +46,14 @@ const WRONG: [(&str, i64, i64); 10] = [
     ("high +1", 1, 1),
     ("steps -1", 2, -1),
     ("byte behind the buffer", 5, 128),
+];
+
+/// The same of the saved work that a sitting writes.
+const WRONG_WORK: [(&str, i64, i64); 4] = [
+    ("last byte of the work", 13, 1),
+    ("byte behind the work", 9, 1),
+    ("byte behind the work buffer", 10, 128),
+    ("count of the work", 11, 1),
 ];
 
 /// Where it is wrong: least and most links, finished, least and most steps.
@@ -79,6 +88,10 @@ fn of_answers() -> Vec<Slip> {
                     slips.push(slip(format!("{of}: {wrong}, {place}"), &numbers));
                 }
             }
+            for &(wrong, what, by) in WRONG_WORK.iter().filter(|_| call == SITTING) {
+                let numbers = [0, call as i64, what, by, least, most, finished, from, to];
+                slips.push(slip(format!("{of}: {wrong}, {place}"), &numbers));
+            }
         }
     }
     slips
@@ -90,6 +103,7 @@ fn causes(call: usize) -> Vec<i64> {
         CHECK => (1..=6).collect(),
         IMPORTANCE => (1..=9).collect(),
         DIFFERENCE => (1..=7).chain([9]).chain(21..=26).collect(),
+        SITTING => (1..=7).chain(9..=11).collect(),
         _ => (1..=7).chain([9]).collect(),
     }
 }
@@ -102,8 +116,15 @@ fn of_refusals() -> Vec<Slip> {
                 ("another number", 6, 1),
                 ("first byte", 7, 1),
                 ("last byte", 8, 64),
+                ("first byte of the work", 11, 1),
+                ("last byte of the work", 12, 64),
             ] {
-                if call != CHECK || what == 6 {
+                let has = match what {
+                    6 => true,
+                    11 | 12 => call == SITTING,
+                    _ => call != CHECK,
+                };
+                if has {
                     let numbers = [1, call as i64, what, by, cause];
                     slips.push(slip(format!("{of}: {wrong}, refused {cause}"), &numbers));
                 }
@@ -113,7 +134,7 @@ fn of_refusals() -> Vec<Slip> {
     slips
 }
 
-const OTHERS: [(i64, &str); 40] = [
+const OTHERS: [(i64, &str); 62] = [
     (2, "a limit of 1000000 is refused"),
     (3, "a limit of 1000001 is accepted"),
     (4, "limits are 32 bits"),
@@ -160,6 +181,28 @@ const OTHERS: [(i64, &str); 40] = [
         46,
         "a difference's high is one less where one evaluation is finished",
     ),
+    (47, "sitting: the bytes behind saved work are cleared"),
+    (48, "sitting: the steps of saved work are one less"),
+    (49, "sitting: the work buffer is cleared on a refusal"),
+    (50, "sitting: begun work starts over"),
+    (51, "sitting: the steps are those of this sitting"),
+    (52, "sitting: known pairs are taken as running"),
+    (53, "sitting: running pairs are taken as 0 to S"),
+    (54, "sitting: a sitting goes past the most steps"),
+    (55, "sitting: complete work is worked anew"),
+    (56, "sitting: 11 is tested before 10"),
+    (57, "sitting: the second place is not tested"),
+    (58, "sitting: a low above its high is accepted"),
+    (59, "sitting: a low of 1 is the running mark"),
+    (60, "sitting: a state of 2 is begun"),
+    (61, "sitting: longer saved work is accepted"),
+    (62, "sitting: no bytes are eight zero bytes"),
+    (63, "sitting: the limit is that of all sittings"),
+    (64, "sitting: a total past the most steps is refused"),
+    (65, "sitting: saved work is refused before the plan"),
+    (66, "sitting: a work buffer of 775 bytes is accepted"),
+    (67, "sitting: steps of 1000001 are accepted"),
+    (68, "sitting: 65 open splits are accepted"),
 ];
 
 fn slips() -> Vec<Slip> {

@@ -1,4 +1,4 @@
-//! The planning desk's four calls, and what each should answer.
+//! The planning desk's calls but for the sitting, and what each should answer.
 
 use crate::arithmetic::S;
 use crate::plans::{Link, Plan, LENGTH};
@@ -41,7 +41,7 @@ pub fn limits_around(needed: u64) -> Vec<u64> {
 /// What a call answers, which for a check is nothing, or the number that it is refused with.
 pub type Outcome = Result<Option<Answer>, u64>;
 
-fn number(bytes: &[u8]) -> u32 {
+pub(crate) fn number(bytes: &[u8]) -> u32 {
     bytes.iter().rev().fold(0, |x, b| x * 256 + u32::from(*b))
 }
 
@@ -82,7 +82,7 @@ pub fn read(bytes: &[u8]) -> Result<Plan, u64> {
 }
 
 /// Rows 7 and 9, which come first.
-fn asked(limit: u64, room: usize) -> Result<(), u64> {
+pub(crate) fn asked(limit: u64, room: usize) -> Result<(), u64> {
     if limit > MOST_STEPS {
         return Err(7);
     }

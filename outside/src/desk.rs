@@ -1,6 +1,7 @@
-//! The calculator's four calls, through their C interface.
+//! The calculator's five calls, through their C interface.
 
 use crate::calls::{answer_of, left, Call, Outcome, ANSWER};
+use crate::sittings::{self, Sat, Sitting};
 
 mod c {
     extern "C" {
@@ -29,6 +30,17 @@ mod c {
             answer: *mut u8,
             answer_len: usize,
         ) -> u64;
+        pub fn sitting(
+            plan: *const u8,
+            plan_len: usize,
+            limit: u64,
+            saved: *const u8,
+            saved_len: usize,
+            answer: *mut u8,
+            answer_len: usize,
+            work: *mut u8,
+            work_len: usize,
+        ) -> u64;
     }
 }
 
@@ -47,6 +59,25 @@ pub fn made(call: &Call, answer: &mut [u8]) -> u64 {
                 c::difference(a.as_ptr(), a.len(), b.as_ptr(), b.len(), limit, to, room)
             }
         }
+    }
+}
+
+/// Makes the call of a sitting.
+pub fn sat(sitting: &Sitting, answer: &mut [u8], work: &mut [u8]) -> u64 {
+    let Sitting { plan, limit, saved } = *sitting;
+    // SAFETY: as above, and the work is lent to this call alone too.
+    unsafe {
+        c::sitting(
+            plan.as_ptr(),
+            plan.len(),
+            limit,
+            saved.as_ptr(),
+            saved.len(),
+            answer.as_mut_ptr(),
+            answer.len(),
+            work.as_mut_ptr(),
+            work.len(),
+        )
     }
 }
 
@@ -83,6 +114,19 @@ pub fn hold(call: &Call, room: usize, outcome: &Outcome) {
     );
 }
 
+/// The same of a sitting, into two buffers of these sizes, each with a guard behind.
+pub fn hold_sitting(sitting: &Sitting, rooms: [usize; 2], outcome: &Result<Sat, u64>) {
+    let before = rooms.map(|room| pattern(room + GUARD));
+    let [mut answer, mut work] = before.clone();
+    let returned = sat(sitting, &mut answer[..rooms[0]], &mut work[..rooms[1]]);
+    let expected = sittings::left(outcome, &before[0], &before[1]);
+    assert_eq!(
+        (returned, answer, work),
+        expected,
+        "{sitting:?}, rooms {rooms:?}, {outcome:?}"
+    );
+}
+
 /// `check` of no bytes at no address.
 pub fn check_nothing() -> u64 {
     // SAFETY: nothing is read of no bytes.
@@ -93,4 +137,27 @@ pub fn check_nothing() -> u64 {
 pub fn figure_into_nothing(plan: &[u8], limit: u64) -> u64 {
     // SAFETY: as above, and nothing is written to no bytes.
     unsafe { c::figure(plan.as_ptr(), plan.len(), limit, std::ptr::null_mut(), 0) }
+}
+
+/// A sitting of which one lent part (the plan, the saved work, the answer or the work buffer) is no bytes at no address.
+pub fn sat_with_nothing(sitting: &Sitting, which: usize) -> u64 {
+    use std::ptr::{null, null_mut};
+    let (mut answer, mut work) = ([0; ANSWER], [0; sittings::WORK]);
+    let lent = |i: usize, bytes: &[u8]| match i == which {
+        true => (null(), 0),
+        false => (bytes.as_ptr(), bytes.len()),
+    };
+    let (plan, saved) = (lent(0, sitting.plan), lent(1, sitting.saved));
+    let lent = |i: usize, bytes: &mut [u8]| match i == which {
+        true => (null_mut(), 0),
+        false => (bytes.as_mut_ptr(), bytes.len()),
+    };
+    let (answer, work) = (lent(2, &mut answer), lent(3, &mut work));
+    let limit = sitting.limit;
+    // SAFETY: nothing is read of no bytes and nothing written to them.
+    unsafe {
+        c::sitting(
+            plan.0, plan.1, limit, saved.0, saved.1, answer.0, answer.1, work.0, work.1,
+        )
+    }
 }

@@ -15,5 +15,6 @@ pub mod programs;
 pub mod random;
 pub mod repository;
 pub mod rule;
+pub mod sittings;
 pub mod states;
 pub mod versions;

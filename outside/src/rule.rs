@@ -5,7 +5,7 @@ use crate::plans::Plan;
 use std::fmt::{self, Display, Formatter};
 
 #[derive(Clone, Copy, Debug)]
-struct Link {
+pub(crate) struct Link {
     ends: [u8; 2],
     low: u32,
     high: u32,
@@ -32,6 +32,16 @@ impl Link {
         other.ends == [a, b] || other.ends == [b, a]
     }
 
+    /// The figure of a split on this link, from those of its branches, with the step that it takes.
+    pub(crate) fn mixed(&self, sound: Figure, broken: Figure) -> Figure {
+        Figure {
+            low: split(Side::Low, self.low, sound.low, broken.low),
+            high: split(Side::High, self.high, sound.high, broken.high),
+            steps: 1 + sound.steps + broken.steps,
+            finished: sound.finished && broken.finished,
+        }
+    }
+
     /// The end that is not `node`.
     fn across(&self, node: u8) -> u8 {
         if self.ends[0] == node {
@@ -54,11 +64,20 @@ pub struct Network {
     links: Vec<Link>,
 }
 
+/// A split: its link and the link's place, counted from 0 among the links then left, and both branches.
+#[derive(Clone, Debug)]
+pub(crate) struct Split {
+    pub place: u32,
+    pub link: Link,
+    pub sound: Network,
+    pub broken: Network,
+}
+
 /// What is left to be done after the first step that fits.
-enum Step {
+pub(crate) enum Step {
     Known(u32),
     Rest(Network, [u32; 2]),
-    Split(Link, Network, Network),
+    Split(Split),
 }
 
 /// The fields stand in memory as those of the figure in `c/rule.c`.
@@ -157,7 +176,7 @@ impl Network {
         self.without_link(other)
     }
 
-    fn step(mut self) -> Step {
+    pub(crate) fn step(mut self) -> Step {
         self.links.retain(|l| !l.is_loop());
         if self.nodes.len() == 1 {
             return Step::Known(S);
@@ -181,9 +200,14 @@ impl Network {
             let rest = self.joined(at[0], at[1], ends, both(series, &p, &q));
             return Step::Rest(rest.without_node(v), both(factor, &p, &q));
         }
-        let p = self.links[0];
+        let link = self.links[0];
         let broken = self.without_link(0);
-        Step::Split(p, broken.clone().contracted(p.ends), broken)
+        Step::Split(Split {
+            place: 0,
+            link,
+            sound: broken.clone().contracted(link.ends),
+            broken,
+        })
     }
 
     /// The network with the link at `place` sound, and with it broken.
@@ -200,7 +224,26 @@ impl Network {
 }
 
 impl Figure {
-    fn times(self, [low, high]: [u32; 2]) -> Figure {
+    pub(crate) fn known(value: u32) -> Figure {
+        Figure {
+            low: value,
+            high: value,
+            steps: 0,
+            finished: true,
+        }
+    }
+
+    /// Of a network at a split for which no step is left.
+    pub(crate) fn unknown() -> Figure {
+        Figure {
+            low: 0,
+            high: S,
+            steps: 0,
+            finished: false,
+        }
+    }
+
+    pub(crate) fn times(self, [low, high]: [u32; 2]) -> Figure {
         Figure {
             low: product(Side::Low, low, self.low),
             high: product(Side::High, high, self.high),
@@ -211,28 +254,13 @@ impl Figure {
 
 pub fn figure(network: Network, limit: u64) -> Figure {
     match network.step() {
-        Step::Known(value) => Figure {
-            low: value,
-            high: value,
-            steps: 0,
-            finished: true,
-        },
+        Step::Known(value) => Figure::known(value),
         Step::Rest(rest, factors) => figure(rest, limit).times(factors),
-        Step::Split(..) if limit == 0 => Figure {
-            low: 0,
-            high: S,
-            steps: 0,
-            finished: false,
-        },
-        Step::Split(p, sound, broken) => {
-            let sound = figure(sound, limit - 1);
-            let broken = figure(broken, limit - 1 - sound.steps);
-            Figure {
-                low: split(Side::Low, p.low, sound.low, broken.low),
-                high: split(Side::High, p.high, sound.high, broken.high),
-                steps: 1 + sound.steps + broken.steps,
-                finished: sound.finished && broken.finished,
-            }
+        Step::Split(_) if limit == 0 => Figure::unknown(),
+        Step::Split(taken) => {
+            let sound = figure(taken.sound, limit - 1);
+            let broken = figure(taken.broken, limit - 1 - sound.steps);
+            taken.link.mixed(sound, broken)
         }
     }
 }
@@ -242,7 +270,7 @@ pub fn needed(network: Network) -> u64 {
     match network.step() {
         Step::Known(_) => 0,
         Step::Rest(rest, _) => needed(rest),
-        Step::Split(_, sound, broken) => 1 + needed(sound) + needed(broken),
+        Step::Split(taken) => 1 + needed(taken.sound) + needed(taken.broken),
     }
 }
 

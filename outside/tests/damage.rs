@@ -1,4 +1,4 @@
-//! Damaged plan files at each of the calls: every outcome is the one that the rule gives.
+//! Damaged plan files at each of the calls but the sitting: every outcome is the one that the rule gives.
 
 use outside::calls::{held, read, Call, MOST_STEPS};
 use outside::plans::{damaged, Plan};
@@ -13,7 +13,7 @@ fn small(files: [&[u8]; 2]) -> Option<[Plan; 2]> {
     few.then_some(plans)
 }
 
-/// Makes all four calls on a file, and says whether it was accepted.
+/// Makes these four calls on a file, and says whether it was accepted.
 fn tried(file: &[u8], good: &[u8], place: u64, limit: u64) -> bool {
     let accepted = held(&Call::Check { plan: file }, 0).is_ok();
     let plan = file;

@@ -6,6 +6,7 @@ use outside::desk::pattern;
 use outside::plans::{damaged, Plan};
 use outside::programs::{compiled, ran};
 use outside::random::Random;
+use outside::sittings::{self, Sitting, NOTHING, WORK};
 use std::fs::{self, File};
 use std::path::{Path, PathBuf};
 use std::process::Command;
@@ -15,8 +16,16 @@ fn written(name: &str) -> PathBuf {
     Path::new(env!("CARGO_TARGET_TMPDIR")).join(name)
 }
 
-/// A call as `c/calls.c` reads it.
-fn record(call: &Call, buffer: &[u8]) -> Vec<u8> {
+/// A call as `c/calls.c` reads it: which one, limit and place, the answer buffer, two plans or a plan and saved work, and the work
+/// buffer.
+fn record(numbers: [u64; 3], lent: [&[u8]; 4]) -> Vec<u8> {
+    let lengths = lent.map(|bytes| bytes.len() as u64);
+    let numbers = numbers.iter().chain(&lengths);
+    let numbers: Vec<u8> = numbers.flat_map(|x| x.to_le_bytes()).collect();
+    [numbers, lent.concat()].concat()
+}
+
+fn record_of_call(call: &Call, buffer: &[u8]) -> Vec<u8> {
     let none: &[u8] = &[];
     let (which, limit, place, a, b) = match *call {
         Call::Check { plan } => (0, 0, 0, plan, none),
@@ -24,10 +33,7 @@ fn record(call: &Call, buffer: &[u8]) -> Vec<u8> {
         Call::Importance { plan, place, limit } => (2, limit, place, plan, none),
         Call::Difference { a, b, limit } => (3, limit, 0, a, b),
     };
-    let [room, a_len, b_len] = [buffer, a, b].map(|bytes| bytes.len() as u64);
-    let numbers = [which, limit, place, room, a_len, b_len];
-    let numbers: Vec<u8> = numbers.iter().flat_map(|x| x.to_le_bytes()).collect();
-    [&numbers, buffer, a, b].concat()
+    record([which, limit, place], [buffer, a, b, none])
 }
 
 fn any_call<'a>(random: &mut Random, plan: &'a [u8], good: &'a [u8]) -> Call<'a> {
@@ -50,12 +56,38 @@ fn any_call<'a>(random: &mut Random, plan: &'a [u8], good: &'a [u8]) -> Call<'a>
     }
 }
 
+/// What is handed to the program, and what it should write.
+struct Trial {
+    input: Vec<u8>,
+    output: Vec<u8>,
+    shown: String,
+}
+
+fn trial(call: &Call, room: usize) -> Trial {
+    let before = pattern(room);
+    let (number, buffer) = left(&call.outcome(room), &before);
+    Trial {
+        input: record_of_call(call, &before),
+        output: [&number.to_le_bytes(), &buffer[..]].concat(),
+        shown: format!("{call:?}, room {room}"),
+    }
+}
+
+fn trial_of_sitting(sitting: &Sitting, rooms: [usize; 2]) -> Trial {
+    let [answer, work] = rooms.map(pattern);
+    let outcome = sitting.outcome(rooms[0], rooms[1]);
+    let (number, answer_left, work_left) = sittings::left(&outcome, &answer, &work);
+    let Sitting { plan, limit, saved } = *sitting;
+    Trial {
+        input: record([4, limit, 0], [&answer, plan, saved, &work]),
+        output: [&number.to_le_bytes(), &answer_left[..], &work_left].concat(),
+        shown: format!("{sitting:?}, rooms {rooms:?}"),
+    }
+}
+
 /// Makes the calls in a program of its own under the memory checker, and compares every outcome.
-fn checked(calls: &[(Call, usize)], name: &str) {
-    let input: Vec<u8> = calls
-        .iter()
-        .flat_map(|(call, room)| record(call, &pattern(*room)))
-        .collect();
+fn checked(trials: &[Trial], name: &str) {
+    let input: Vec<u8> = trials.iter().flat_map(|t| t.input.clone()).collect();
     let file = written(&format!("{name}.in"));
     fs::write(&file, input).unwrap();
     let mut valgrind = Command::new("valgrind");
@@ -63,11 +95,9 @@ fn checked(calls: &[(Call, usize)], name: &str) {
     valgrind.arg(compiled("outside/c/calls.c", &written(name)));
     let output = ran(valgrind.stdin(File::open(file).unwrap())).stdout;
     let mut rest = &output[..];
-    for (call, room) in calls {
-        let (number, buffer) = left(&call.outcome(*room), &pattern(*room));
-        let expected = [&number.to_le_bytes(), &buffer[..]].concat();
-        let (ours, others) = rest.split_at(8 + room);
-        assert_eq!(ours, expected, "{call:?}, room {room}");
+    for trial in trials {
+        let (ours, others) = rest.split_at(trial.output.len());
+        assert_eq!(ours, trial.output, "{}", trial.shown);
         rest = others;
     }
     assert!(rest.is_empty());
@@ -85,9 +115,9 @@ fn damaged_plans_under_a_memory_checker() {
     }
     let mut call = |file| {
         let room = 16 + random.below(3) * random.below(25) - random.below(2) * random.below(17);
-        (any_call(&mut random, file, &good), room)
+        trial(&any_call(&mut random, file, &good), room)
     };
-    let calls: Vec<(Call, usize)> = files.iter().map(|file| call(file)).collect();
+    let calls: Vec<Trial> = files.iter().map(|file| call(file)).collect();
     assert!(calls.len() > 5_000, "too few calls: {}", calls.len());
     checked(&calls, "damaged");
 }
@@ -100,7 +130,7 @@ fn the_largest_plans_under_a_memory_checker() {
         .into();
     files.push(Plan::new(32, &[(31, 0, S)].repeat(64)).bytes());
     let limit = 25;
-    let calls: Vec<(Call, usize)> = files
+    let calls: Vec<Trial> = files
         .iter()
         .zip(files.iter().rev())
         .flat_map(|(plan, b)| {
@@ -118,6 +148,56 @@ fn the_largest_plans_under_a_memory_checker() {
                 (Call::Difference { a: plan, b, limit }, 40),
             ]
         })
+        .map(|(call, room)| trial(&call, room))
         .collect();
     checked(&calls, "largest");
+}
+
+/// The work of a first sitting.
+fn saved(plan: &[u8], limit: u64) -> Vec<u8> {
+    let saved = &NOTHING;
+    let first = Sitting { plan, limit, saved };
+    first.outcome(16, WORK).unwrap().work
+}
+
+/// Work carried on, and damaged in every byte, cut and lengthened; and damaged plans.
+#[test]
+fn sittings_under_a_memory_checker() {
+    let mut random = Random::new(43);
+    let mut trials = Vec::new();
+    let plans = [
+        Plan::complete(6, S / 3),
+        Plan::random_of(&mut random, 8, 20),
+        Plan::random_of(&mut random, 20, 64),
+    ];
+    for plan in plans.map(|plan| plan.bytes()) {
+        for steps in [0, 1, 5, 17, 60] {
+            let saved = saved(&plan, steps);
+            let damaged_work = damaged(&mut random, &saved);
+            let mut sat = |plan: &[u8], saved: &[u8]| {
+                let limit = random.up_to(12);
+                let rooms = match random.below(6) {
+                    0 => [random.below(17), WORK],
+                    1 => [16, random.below(WORK + 1)],
+                    2 => [16 + random.below(20), WORK + random.below(40)],
+                    _ => [16, WORK],
+                };
+                trials.push(trial_of_sitting(&Sitting { plan, limit, saved }, rooms));
+            };
+            sat(&plan, &saved);
+            damaged_work.iter().for_each(|saved| sat(&plan, saved));
+            let whole = [&saved[..], &pattern(WORK - saved.len())].concat();
+            sat(&plan, &whole);
+        }
+        let good = saved(&plan, 9);
+        for plan in damaged(&mut random, &plan).iter().step_by(5) {
+            let (limit, saved) = (random.up_to(12), &good);
+            trials.push(trial_of_sitting(
+                &Sitting { plan, limit, saved },
+                [16, WORK],
+            ));
+        }
+    }
+    assert!(trials.len() > 4_000, "too few: {}", trials.len());
+    checked(&trials, "sittings");
 }

@@ -2,11 +2,12 @@
 
 use outside::arithmetic::S;
 use outside::calls::{left, Call, Outcome, MOST_STEPS};
-use outside::desk::{hold, made, pattern};
+use outside::desk::{hold, hold_sitting, made, pattern, sat};
 use outside::plans::Plan;
 use outside::random::Random;
 use outside::repository::plan;
 use outside::rule::{needed, Network};
+use outside::sittings::{self, most_open, Begun, Sat, Sitting, NOTHING, RUNNING, WORK};
 use std::thread;
 
 const STACK: usize = 512 * 1024;
@@ -67,6 +68,84 @@ fn sixty_four_loops_and_parallels() {
     }
 }
 
+/// The same of a sitting, and what it writes.
+fn sitting_on_a_small_stack(sitting: &Sitting) -> Sat {
+    let [mut answer, mut work] = [24, WORK + 8].map(pattern);
+    let before = [answer.clone(), work.clone()];
+    let returned = thread::scope(|scope| {
+        let small = thread::Builder::new().stack_size(STACK);
+        let run = small.spawn_scoped(scope, || sat(sitting, &mut answer, &mut work));
+        run.unwrap().join().unwrap()
+    });
+    let outcome = sitting.outcome(24, WORK + 8);
+    let expected = sittings::left(&outcome, &before[0], &before[1]);
+    assert_eq!((returned, answer, work), expected);
+    outcome.unwrap()
+}
+
+/// Set aside where most splits are open, carried on by a step, and then to the end.
+#[test]
+fn the_worst_chain_of_splits_carried_on() {
+    for (plan, open, after) in [
+        (deepest(), 32, 27_250),
+        (Plan::complete(10, S / 3), 27, 40_198),
+    ] {
+        let plan = &plan.bytes();
+        assert_eq!(most_open(plan, MOST_STEPS), (open, after));
+        let mut saved = NOTHING.to_vec();
+        for (limit, state) in [(after, 0), (1, 0), (MOST_STEPS, 1)] {
+            let sitting = Sitting {
+                plan,
+                limit,
+                saved: &saved,
+            };
+            saved = sitting_on_a_small_stack(&sitting).work;
+            assert_eq!(saved[2], state);
+        }
+    }
+}
+
+/// Twelve nodes and 64 links, of which the last 18 leave three at each node: the first 46 may all be open, with nine more behind.
+fn most_splits() -> (Plan, Begun) {
+    let round = (0..12).map(|v| [v, (v + 1) % 12]);
+    let across = (0..6).map(|v| [v, v + 6]);
+    let last: Vec<[u8; 2]> = round.chain(across).collect();
+    let pairs = (0..12).flat_map(|b| (0..b).map(move |a| [a, b]));
+    let others = pairs.filter(|[a, b]| !last.contains(&[*a, *b]) && !last.contains(&[*b, *a]));
+    let ends: Vec<[u8; 2]> = others.skip(2).chain(last.clone()).collect();
+    let known = [S / 3, S / 2];
+    let inner = "rrrrkrrrk"
+        .chars()
+        .map(|c| if c == 'r' { RUNNING } else { known });
+    let pairs: Vec<[u32; 2]> = [known; 46].into_iter().chain(inner).collect();
+    let work = Begun {
+        places: vec![0; pairs.len()],
+        pairs,
+        steps: 600_000,
+    };
+    (Plan::alike(12, S / 10 * 9, &ends), work)
+}
+
+/// The most open splits that a search has found a plan for, made up by hand; and one more, which no plan of the search has.
+#[test]
+fn fifty_five_open_splits_carried_on() {
+    let (plan, work) = most_splits();
+    assert_eq!((plan.links.len(), work.pairs.len()), (64, 55));
+    let plan = &plan.bytes();
+    for limit in [0, 1, 5, MOST_STEPS] {
+        let saved = &work.bytes();
+        sitting_on_a_small_stack(&Sitting { plan, limit, saved });
+    }
+    for pair in [RUNNING, [S, S]] {
+        let mut more = work.clone();
+        more.places.push(0);
+        more.pairs.push(pair);
+        let (saved, limit) = (&more.bytes(), 5);
+        let sitting = Sitting { plan, limit, saved };
+        hold_sitting(&sitting, [16, WORK], &Err(11));
+    }
+}
+
 const THREADS: usize = 8;
 
 /// Each thread makes all the calls, each from another one on, so that different plans are worked at the same time.
@@ -90,14 +169,28 @@ fn eight_threads_at_once() {
         })
         .collect();
     let outcomes: Vec<Outcome> = calls.iter().map(|call| call.outcome(24)).collect();
+    let saved = |plan: &Vec<u8>| {
+        let (limit, saved) = (700, &NOTHING);
+        let first = Sitting { plan, limit, saved };
+        first.outcome(16, WORK).unwrap().work
+    };
+    let works: Vec<Vec<u8>> = files.iter().map(saved).collect();
+    let lent = files.iter().zip(&works);
+    let sittings: Vec<Sitting> = lent
+        .map(|(plan, saved)| Sitting { plan, limit, saved })
+        .collect();
+    let sats: Vec<Result<Sat, u64>> = sittings.iter().map(|s| s.outcome(24, WORK)).collect();
     thread::scope(|scope| {
         for first in 0..THREADS {
             let (calls, outcomes) = (&calls, &outcomes);
+            let (sittings, sats) = (&sittings, &sats);
             let small = thread::Builder::new().stack_size(STACK);
             let run = move || {
                 for i in 0..4 * calls.len() {
                     let i = (i + 3 * first) % calls.len();
                     hold(&calls[i], 24, &outcomes[i]);
+                    let i = i % sittings.len();
+                    hold_sitting(&sittings[i], [24, WORK], &sats[i]);
                 }
             };
             small.spawn_scoped(scope, run).unwrap();

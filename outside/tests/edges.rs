@@ -3,6 +3,7 @@
 use outside::arithmetic::S;
 use outside::calls::{held, Call, Outcome};
 use outside::plans::{Plan, LENGTH};
+use outside::sittings::{held_into, Sitting, NOTHING, WORK};
 
 /// A ring of all nodes, run round until there are enough links, so that it takes no split.
 fn ring(nodes: u16, count: usize, value: u32) -> Vec<u8> {
@@ -13,8 +14,8 @@ fn ring(nodes: u16, count: usize, value: u32) -> Vec<u8> {
 }
 
 /// Number returned by each call that is made with this plan and limit: check, figure, importance, difference with the
-/// plan first, and second.
-fn numbers(plan: &[u8], limit: u64) -> [u64; 5] {
+/// plan first, and second; and sitting.
+fn numbers(plan: &[u8], limit: u64) -> [u64; 6] {
     let good = &ring(3, 3, S);
     let calls = [
         Call::Check { plan },
@@ -35,13 +36,17 @@ fn numbers(plan: &[u8], limit: u64) -> [u64; 5] {
             limit,
         },
     ];
-    calls.map(|call| held(&call, 16).err().unwrap_or(0))
+    let [a, b, c, d, e] = calls.map(|call| held(&call, 16).err().unwrap_or(0));
+    let saved = &NOTHING;
+    let sitting = Sitting { plan, limit, saved };
+    let f = held_into(&sitting, 16, WORK).err().unwrap_or(0);
+    [a, b, c, d, e, f]
 }
 
-const PASSED: [u64; 5] = [0; 5];
+const PASSED: [u64; 6] = [0; 6];
 
-fn refused(number: u64) -> [u64; 5] {
-    [number, number, number, number, number + 20]
+fn refused(number: u64) -> [u64; 6] {
+    [number, number, number, number, number + 20, number]
 }
 
 #[test]
@@ -82,7 +87,7 @@ fn limits_are_64_bits() {
         1 << 63,
         u64::MAX,
     ] {
-        assert_eq!(numbers(&plan, limit), [0, 7, 7, 7, 7], "limit {limit}");
+        assert_eq!(numbers(&plan, limit), [0, 7, 7, 7, 7, 7], "limit {limit}");
     }
 }
 
@@ -119,6 +124,25 @@ fn buffers_of_0_to_40_bytes() {
     }
 }
 
+/// The same of the two buffers of a sitting, of which the second has to have 776 bytes.
+#[test]
+fn buffers_of_a_sitting() {
+    let (plan, saved) = (&Plan::complete(5, S / 2).bytes(), &NOTHING);
+    for limit in [0, 3, 10] {
+        let sitting = Sitting { plan, limit, saved };
+        let works = (0..=40).chain(760..=800).chain([WORK - 1, WORK, 4_096]);
+        for (answer, work) in works.flat_map(|work| [0, 15, 16, 17].map(|room| (room, work))) {
+            let number = if answer < 16 || work < WORK {
+                Err(9)
+            } else {
+                Ok(())
+            };
+            let returned = held_into(&sitting, answer, work).map(|_| ());
+            assert_eq!(returned, number, "{answer} {work}");
+        }
+    }
+}
+
 /// A file or a buffer of no bytes may be at no address at all.
 #[test]
 fn no_bytes_at_no_address() {
@@ -127,6 +151,12 @@ fn no_bytes_at_no_address() {
     assert_eq!(desk::check_nothing(), 1);
     assert_eq!(desk::figure_into_nothing(plan, 5), 9);
     assert_eq!(desk::figure_into_nothing(plan, 1_000_001), 7);
+    let (saved, limit) = (&NOTHING, 5);
+    let sitting = Sitting { plan, limit, saved };
+    let numbers = [1, 10, 9, 9];
+    for (which, number) in numbers.into_iter().enumerate() {
+        assert_eq!(desk::sat_with_nothing(&sitting, which), number);
+    }
 }
 
 /// Low is the most negative, high the largest.

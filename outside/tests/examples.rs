@@ -1,11 +1,12 @@
-//! The header and the examples in C: they compile without a warning, the header as C++ too, and the comparison of two plans
-//! prints what the rule gives.
+//! The header and the examples in C: they compile without a warning, the header as C++ too; the comparison of two plans and the
+//! sittings print what the rule gives.
 
 use outside::arithmetic::S;
 use outside::calls::Call;
 use outside::plans::Plan;
 use outside::programs::{compiled, compiled_as_cpp, ran};
 use outside::repository::{path, plan};
+use outside::sittings::{Begun, Sitting, NOTHING, WORK};
 use std::fs;
 use std::path::{Path, PathBuf};
 use std::process::Command;
@@ -135,5 +136,107 @@ fn wrong_words() {
         let (status, text, said) = run(&program, words);
         assert_eq!((status, &text[..]), (2, ""), "{words:?}");
         assert_eq!(said.lines().count(), 1, "{words:?}");
+    }
+}
+
+fn sittings(name: &str) -> PathBuf {
+    compiled("examples/sittings.c", &written(name)).to_owned()
+}
+
+/// A file that is not there yet.
+fn fresh(name: &str) -> PathBuf {
+    let file = written(name);
+    let _ = fs::remove_file(&file);
+    file
+}
+
+/// Runs of the program, each one sitting of 1,000 steps, against first sittings of the rule under their total: what is printed and
+/// what the file holds. With the word more, one run prints the same.
+#[test]
+fn the_mesh_in_sittings() {
+    let program = sittings("mesh-in-sittings");
+    for (name, finished) in [("mesh", false), ("two-crossings", true), ("example", true)] {
+        let (file, saved) = (path(&format!("plans/{name}.plan")), fresh("mesh.saved"));
+        let plan = &plan(name);
+        for total in [1_000, 2_000, 3_000, 4_000] {
+            let first = Sitting {
+                plan,
+                limit: total,
+                saved: &NOTHING,
+            };
+            let sat = first.outcome(16, WORK).unwrap();
+            let limit = total;
+            let one = line("so far", Call::Figure { plan, limit });
+            let words: [&Path; 3] = [&file, &saved, Path::new("compare")];
+            let (words, both) = match total {
+                4_000 => (&words[..], one.replace("so far", "in one run")),
+                _ => (&words[..2], String::new()),
+            };
+            let printed = (0, [one, both].concat(), String::new());
+            assert_eq!(run(&program, words), printed);
+            assert_eq!(fs::read(&saved).unwrap(), sat.work);
+            assert_eq!(sat.answer[12] == 1, finished);
+        }
+    }
+}
+
+/// Saved work that is refused stays in its file; a plan that is refused makes none.
+#[test]
+fn refused_sittings() {
+    let program = sittings("refused-sittings");
+    let (mesh, saved) = (path("plans/mesh.plan"), fresh("refused.saved"));
+    let open = |place, pair| {
+        let (places, pairs, steps) = (vec![place], vec![pair], 5);
+        Begun {
+            places,
+            pairs,
+            steps,
+        }
+    };
+    let whole = vec![0; WORK];
+    let long = vec![0; 5_000];
+    for (work, number) in [
+        (vec![], 10),
+        (whole, 10),
+        (long, 10),
+        (open(0, [2, 1]).bytes(), 10),
+        (open(1, [1, 0]).bytes(), 11),
+    ] {
+        fs::write(&saved, &work).unwrap();
+        let refused = (1, format!("so far: refused {number}\n"), String::new());
+        assert_eq!(run(&program, &[&mesh, &saved]), refused);
+        assert_eq!(fs::read(&saved).unwrap(), work);
+    }
+    let (wrong, saved) = (written("wrong.plan"), fresh("wrong.saved"));
+    fs::write(&wrong, Plan::new(3, &[(0, 1, S), (1, 3, S)]).bytes()).unwrap();
+    let refused = "so far: refused 5 at link 1\n".to_owned();
+    assert_eq!(
+        run(&program, &[&wrong, &saved]),
+        (1, refused, String::new())
+    );
+    assert!(!saved.exists());
+}
+
+#[test]
+fn wrong_words_of_sittings() {
+    let program = sittings("words-of-sittings");
+    let plan = path("plans/example.plan");
+    let (missing, saved) = (written("no-such-plan"), fresh("words.saved"));
+    let (folder, nowhere) = (path("plans"), missing.join("saved"));
+    let wrong: [&[&Path]; 8] = [
+        &[],
+        &[&plan],
+        &[&missing, &saved],
+        &[&folder, &saved],
+        &[&plan, &folder],
+        &[&plan, &saved, Path::new("1000")],
+        &[&plan, &saved, Path::new("compare"), Path::new("compare")],
+        &[&folder, &nowhere],
+    ];
+    for words in wrong {
+        let (status, text, said) = run(&program, words);
+        assert_eq!((status, &text[..]), (2, ""), "{words:?}");
+        assert_eq!(said.lines().count(), 1, "{words:?}");
+        assert!(!saved.exists());
     }
 }

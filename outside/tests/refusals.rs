@@ -1,9 +1,10 @@
-//! Every row of the table of causes, alone and in pairs, at each of the four calls: of the independent version, and of the
+//! Every row of the table of causes, alone and in pairs, at each of the five calls: of the independent version, and of the
 //! library.
 
 use outside::arithmetic::S;
 use outside::calls::{held, Call};
 use outside::plans::{Plan, LENGTH};
+use outside::sittings::{held_into, sizes, Begun, Sitting, RUNNING};
 
 /// Everything that can be wrong with a file: its plan, then its length, then all but its first bytes lost.
 #[derive(Clone)]
@@ -24,6 +25,32 @@ impl File {
     }
 }
 
+/// Everything that can be wrong with saved work: what its first bytes say, its open splits, its length.
+#[derive(Clone)]
+struct Work {
+    count: Option<usize>,
+    state: u16,
+    open: Begun,
+    longer: usize,
+    kept: usize,
+}
+
+impl Work {
+    fn bytes(&self) -> Vec<u8> {
+        let count = self.count.unwrap_or(self.open.places.len());
+        let mut bytes = sizes(count, self.state, self.open.steps);
+        bytes.extend(&self.open.bytes()[8..]);
+        bytes.extend(vec![0; self.longer]);
+        bytes.truncate(self.kept);
+        bytes
+    }
+
+    fn opened(&mut self, place: u32, pair: [u32; 2]) {
+        self.open.places.push(place);
+        self.open.pairs.push(pair);
+    }
+}
+
 #[derive(Clone)]
 struct Asked {
     limit: u64,
@@ -31,6 +58,8 @@ struct Asked {
     place: u64,
     a: File,
     b: File,
+    work_room: usize,
+    saved: Work,
 }
 
 fn accepted() -> Asked {
@@ -46,6 +75,14 @@ fn accepted() -> Asked {
         place: 2,
         a: file.clone(),
         b: file,
+        work_room: 776,
+        saved: Work {
+            count: None,
+            state: 0,
+            open: Begun::default(),
+            longer: 0,
+            kept: usize::MAX,
+        },
     }
 }
 
@@ -124,6 +161,43 @@ fn of_the_place() -> Vec<Fault<Asked>> {
         .into()
 }
 
+fn of_the_work_buffer() -> Vec<Fault<Asked>> {
+    let rooms = [0, 16, 24, 388, 775];
+    rooms
+        .map(|room| fault(9, move |q: &mut Asked| q.work_room = room))
+        .into()
+}
+
+/// Row 10 and then 11. The plan has no split, so each open split is one that the rule does not come to.
+fn of_the_saved_work() -> Vec<Fault<Asked>> {
+    let mut faults = Vec::new();
+    let mut ten = |spoils: fn(&mut Work)| {
+        faults.push(fault(10, move |q: &mut Asked| spoils(&mut q.saved)));
+    };
+    ten(|work| work.kept = 0);
+    ten(|work| work.kept = 7);
+    ten(|work| work.longer = 1);
+    ten(|work| work.longer = 768);
+    ten(|work| work.count = Some(5));
+    ten(|work| work.count = Some(65));
+    ten(|work| work.count = Some(65_535));
+    ten(|work| work.state = 1);
+    ten(|work| work.state = 2);
+    ten(|work| work.state = 256);
+    ten(|work| work.open.steps = 1_000_001);
+    ten(|work| work.open.steps = u32::MAX);
+    ten(|work| work.opened(0, [2, 1]));
+    ten(|work| work.opened(0, [0, S + 1]));
+    ten(|work| work.opened(0, [S + 1, S + 1]));
+    let mut eleven = |spoils: fn(&mut Work)| {
+        faults.push(fault(11, move |q: &mut Asked| spoils(&mut q.saved)));
+    };
+    eleven(|work| work.opened(0, RUNNING));
+    eleven(|work| work.opened(0, [0, S]));
+    eleven(|work| work.opened(63, [7, 7]));
+    faults
+}
+
 /// Each fault alone, and each two with different numbers: the one that is tested first decides.
 fn alone_and_in_pairs(faults: &[Fault<Asked>], returned: impl Fn(&Asked) -> Result<(), u64>) {
     assert_eq!(returned(&accepted()), Ok(()));
@@ -192,6 +266,20 @@ fn of_difference() {
             },
             q.room,
         )
+    });
+}
+
+#[test]
+fn of_sitting() {
+    let mut faults = of_the_limit_and_the_buffer();
+    faults.extend(of_the_work_buffer());
+    faults.extend(of_plan_a());
+    faults.extend(of_the_saved_work());
+    alone_and_in_pairs(&faults, |q| {
+        let (plan, saved) = (&q.a.bytes(), &q.saved.bytes());
+        let limit = q.limit;
+        let sitting = Sitting { plan, limit, saved };
+        held_into(&sitting, q.room, q.work_room).map(|_| ())
     });
 }
 

@@ -38,11 +38,14 @@ traced-multiplied k t [] = refl
 traced-multiplied k t (o ∷ os) = refl
 
 -- figures that are ready
+pub known-worked : (k : Direction → ℕ) (l : ℕ) (row : List ℕ) (p : ℕ) (r : Carried) → r .figure ≡ bounded k 0 true → r .aside ≡ 0 → Worked (ready k) l row p r row
+unfolding run aside entries
+known-worked k l row p r f n = record { figure = f; count = n; written = refl }
+
 pub ready-worked : {t : Tree} {k : Direction → ℕ} → t ≡ ready k → (os : List Open) (l : ℕ) (row : List ℕ) (p : ℕ) (r : Carried) → r .figure ≡ bounded k 0 true → r .aside ≡ 0
     → Worked (resumed t os) l row p r row
-unfolding run aside entries
 ready-worked {t} {k} is os l row p r f n =
-    subst (λ (u : Tree). Worked u l row p r row) (sym (ap (λ (u : Tree). resumed u os) is ∙ resumed-ready k os)) (record { figure = f; count = n; written = refl })
+    subst (λ (u : Tree). Worked u l row p r row) (sym (ap (λ (u : Tree). resumed u os) is ∙ resumed-ready k os)) (known-worked k l row p r f n)
 
 -- a factor
 pub factor-worked : {t u : Tree} {k : Direction → ℕ} → t ≡ multiplied k u → (os : List Open) (l : ℕ) (row : List ℕ) (p : ℕ) (f r : Carried) (after : List ℕ)
@@ -265,6 +268,11 @@ module _ (i : ℕ) (e : Link) (s b : Tree) (row : List ℕ) (k : ℕ) where
         go : (t : Bool) → length (aside (brokenOf b row k inner t) l) ≤ m
         go true = le-trans (opens-few b (opensIn row (suc k) inner) l) d
         go false = le-trans (aside-depth b l) d
+
+-- nothing is left of the broken branch
+pub broken-ready : {b : Tree} {f : Direction → ℕ} → b ≡ ready f → (row : List ℕ) (k inner : ℕ) (kn : Bool) → brokenOf b row k inner kn ≡ ready f
+broken-ready {b} {f} is row k inner true = ap (λ (u : Tree). resumed u (opensIn row (suc k) inner)) is ∙ resumed-ready f (opensIn row (suc k) inner)
+broken-ready {b} {f} is row k inner false = is
 
 -- a split takes no step that is not there
 pub own-fits : (c l own : ℕ) → own ≡ 1 - c → (eqb c 0 && eqb l 0) ≡ false → own ≤ l

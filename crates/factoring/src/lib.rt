@@ -56,10 +56,23 @@ fn run<'r>(
             }
             let r = network::assembled(alive, nodes, at, a, b, low, high).end(v, i);
             let f = run(
-                r.alive, r.nodes, &r.at, &r.a, &r.b, &r.low, &r.high, limit, row, k, left,
+                r.alive,
+                r.nodes,
+                &r.at,
+                &r.a,
+                &r.b,
+                &r.low,
+                &r.high,
+                limit,
+                row,
+                k,
+                left,
             );
             let figure = figures::times(e.low, e.high, f.figure);
-            Carried { figure, aside: f.aside }
+            Carried {
+                figure,
+                aside: f.aside,
+            }
         }
         Next::Series(v, i, j) => {
             let e = network::link_at(a, b, low, high, i);
@@ -68,10 +81,23 @@ fn run<'r>(
                 .series(v, i, j)
                 .parallel();
             let f = run(
-                r.alive, r.nodes, &r.at, &r.a, &r.b, &r.low, &r.high, limit, row, k, left,
+                r.alive,
+                r.nodes,
+                &r.at,
+                &r.a,
+                &r.b,
+                &r.low,
+                &r.high,
+                limit,
+                row,
+                k,
+                left,
             );
             let figure = figures::times_factor(e, h, f.figure);
-            Carried { figure, aside: f.aside }
+            Carried {
+                figure,
+                aside: f.aside,
+            }
         }
         Next::Split(i) => {
             if sittings::stopped(left, limit) {
@@ -90,7 +116,17 @@ fn run<'r>(
                     .contracted(i)
                     .parallel();
                 run(
-                    s.alive, s.nodes, &s.at, &s.a, &s.b, &s.low, &s.high, limited, row, k + 1, inner,
+                    s.alive,
+                    s.nodes,
+                    &s.at,
+                    &s.a,
+                    &s.b,
+                    &s.low,
+                    &s.high,
+                    limited,
+                    row,
+                    k + 1,
+                    inner,
                 )
             };
             let others = bits::without(alive, i);
@@ -129,7 +165,19 @@ pub fn carry(net: Network, limit: u64, row: &mut [u32; 192], left: usize) -> Car
         return whole(figures::settled(0));
     }
     let r = n.parallel();
-    run(r.alive, r.nodes, &r.at, &r.a, &r.b, &r.low, &r.high, limit, row, 0, left)
+    run(
+        r.alive,
+        r.nodes,
+        &r.at,
+        &r.a,
+        &r.b,
+        &r.low,
+        &r.high,
+        limit,
+        row,
+        0,
+        left,
+    )
 }
 
 // The figure of a network under a limit, from nothing.

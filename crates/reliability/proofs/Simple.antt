@@ -4,7 +4,7 @@ use mathlib.Core.Path.{_≡_, refl, sym, ap, _∙_, subst}
 use mathlib.Core.List.{List, [], _∷_, map, List·Memᴰ, List·Memᴰ·head, List·Memᴰ·tail, List·Memᴰ·not-nil, List·Memᴰ·eq-of-singleton, Memᴰ·cast, Memᴰ·of-map}
 use mathlib.Core.Bool.{Bool, true, false, cond, true≢false}
 use mathlib.Core.Logic.{_⊎_, inl, inr, ⊎-elim}
-use mathlib.Core.Option.{Option, some, none}
+use mathlib.Core.Option.{Option, some, none, Option·map}
 use native.Mathlib.Nat.{not-suc-le-zero, le-of-suc-le-suc, le-refl, le-of-eq}
 use native.Mathlib.Omega.{arith}
 use lib.Dec.{eqb, leb}
@@ -312,6 +312,18 @@ pub loop-gone : (g : Network) (i : ℕ) → firstAt isLoop (g .links) ≡ some i
 loop-gone g i h =
     let at = subst (Answers (Holds isLoop (g .links)) (Fails isLoop (g .links))) h (first-at isLoop (g .links)) in
     λ k. record { nodes = g .nodes; links = unlooped-delete (g .links) i (at .test) (at .place) k }
+
+pub unlooped-loopless : (g : Network) → Loopless (withoutLoops g)
+unfolding firstAt unlooped
+unlooped-loopless g = go (g .links)
+  where
+    go : (es : List Link) → firstAt isLoop (unlooped es) ≡ none
+    go [] = refl
+    go (e ∷ es) = by (isLoop e) refl (go es)
+      where
+        by : (b : Bool) → isLoop e ≡ b → firstAt isLoop (unlooped es) ≡ none → firstAt isLoop (elim b [ true ↦ unlooped es | false ↦ e ∷ unlooped es ]) ≡ none
+        by true h k = k
+        by false h k = ap (λ (t : Bool). elim t as (λ x. Option ℕ) [ true ↦ some zero | false ↦ Option·map suc (firstAt isLoop (unlooped es)) ]) h ∙ ap (Option·map suc) k
 
 -- it is worked alike
 unlooped-by : (g : Network) → Valid g → ((h : Network) → Below g h → tree h ≡ tree (withoutLoops h)) → tree g ≡ tree (withoutLoops g)

@@ -1,8 +1,9 @@
 -- What is known of links and branches where a step is worked on a network by value.
-use Prim.Native.Nat.{ℕ, _-_, _≤_, _<_}
+use Prim.Native.Nat.{ℕ, _≤_, _<_, zero-le, suc-le-suc}
 use mathlib.Core.Path.{_≡_, sym, ap, ap₂, _∙_, subst}
-use mathlib.Core.List.{List, map}
+use mathlib.Core.List.{List, [], _∷_, map}
 use mathlib.Core.Bool.{Bool, true, false}
+use native.Mathlib.Nat.{le-suc, le-trans}
 use native.Mathlib.Omega.{arith}
 use mathlib.Core.Option.{some, Option·map}
 use lib.Dec.{eqb, leb}
@@ -22,7 +23,7 @@ use Rattle.reliability.proofs.Unrolled.{Below, tree-settled, tree-scaled, tree-
 use Rattle.reliability.proofs.Steps.{split-chosen}
 use Rattle.reliability.proofs.Simple.{simple-next, connected-pieces-few, apart-tree, unpaired-simple, unpaired-tree, unpaired-fewer, end-simple, series-plain, contracted-plain, deleted-simple}
 use Rattle.search.specs.declared.Found.the-variants.{At, Nothing}
-use Rattle.search.specs.Searches.{placesIn, endsIn, found, loops}
+use Rattle.search.specs.Searches.{pick, placesIn, endsIn, found, loops}
 use Rattle.search.proofs.Sets.{has-place, mem-has}
 use Rattle.search.proofs.Marks.{length-places}
 use Rattle.search.proofs.Answers.{first, hit, missed}
@@ -30,7 +31,7 @@ use Rattle.parts.proofs.Nodes.{nodes-cleared}
 use Rattle.parts.specs.Tallies.{Written}
 use Rattle.network.specs.declared.Network.{Network}
 use Rattle.network.specs.Places.{networkOf, linksOf, nodesOf, indexOf, linkOf, rowOf, Used, Invariant, Sized, ranked, Fitting}
-use Rattle.network.proofs.Picks.{index-within, link-at}
+use Rattle.network.proofs.Picks.{allRows, length-all, index-within, link-at}
 use Rattle.network.proofs.Ends.{links-ends}
 use Rattle.network.proofs.Rules.{loop-rule}
 use Rattle.network.proofs.Kept.{by-rule, known, deletes}
@@ -49,6 +50,17 @@ sized-of κs r ok = record {
   low-length = search (needs, ok);
   high-length = search (needs, ok);
 }
+
+pick-few : {A : Type 0} (bs : List Bool) (xs : List A) → length (pick bs xs) ≤ length xs
+unfolding pick
+pick-few [] xs = zero-le
+pick-few (b ∷ bs) [] = zero-le
+pick-few (true ∷ bs) (x ∷ xs) = suc-le-suc (pick-few bs xs)
+pick-few (false ∷ bs) (x ∷ xs) = le-trans (pick-few bs xs) (le-suc (length xs))
+
+-- at most 64 links
+pub links-few : (n : Network) → Sized n → length (linksOf n) ≤ 64
+links-few n sized = omega (arith, pick-few (members (n .alive)) (allRows n), length-all n sized)
 
 -- both values of a link, or both figures, are at most S
 abbrev pub Within : ℕ → ℕ → Type 0

@@ -1,23 +1,24 @@
-use Prim.Native.Nat.{ℕ, suc, _+_, _-_, _≤_, _<_}
+use Prim.Native.Nat.{ℕ, suc, _+_, _-_, _*_, _≤_, _<_}
 use mathlib.Core.Path.{_≡_, refl, sym, ap, ap₂, _∙_, subst}
 use mathlib.Core.List.{List}
-use mathlib.Core.Bool.{Bool, true, false, _&&_}
+use mathlib.Core.Bool.{Bool, true, false, _&&_, true≢false}
 use mathlib.Core.Logic.{inl, inr}
 use native.Mathlib.Numerals.{add-one}
 use native.Mathlib.Omega.{arith}
 use lib.Dec.{eqb}
 use lib.ListN.{length}
+use lib.Seq.{sets}
 use borrow.Author.Tests.{ne-eqb}
 use Rattle.rounding.specs.Rounding.{S, factor}
 use Rattle.reliability.specs.declared.Link.{Link}
 use Rattle.reliability.specs.declared.Figure.{Figure}
 use Rattle.reliability.specs.declared.Step.the-variants.{OneNode, End, Series, Split}
 use Rattle.reliability.specs.Networks.{Network as Graph, value}
-use Rattle.reliability.specs.Rule.{Tree, multiplied, fork, tree, deleted, removed, joined, inSeries, contracted, bounded, times, run as runTree}
+use Rattle.reliability.specs.Rule.{Tree, ready, multiplied, fork, tree, more, mixed, deleted, removed, joined, inSeries, contracted, bounded, times, run as runTree}
 use Rattle.reliability.specs.Simple.{Plain}
 use Rattle.reliability.proofs.Runs.{Ranged}
 use Rattle.network.specs.declared.Network.{Network}
-use Rattle.network.specs.Places.{linksOf, networkOf, indexOf, linkOf, Invariant, Sized, ranked, Fitting, assembled}
+use Rattle.network.specs.Places.{rowOf as linkRow, linksOf, networkOf, indexOf, linkOf, Invariant, Sized, ranked, Fitting, assembled}
 use Rattle.network.proofs.Ends.{ended}
 use Rattle.network.proofs.Kept.{known, ends-below}
 use Rattle.steps.specs.declared.Next.{Next}
@@ -26,11 +27,11 @@ use Rattle.steps.specs.Simple.{Workable, stepOf}
 use Rattle.steps.proofs.Arms.{Within, sized-of, moved-fits, link-within, fewer, unpaired-work, unpaired-same, unpaired-less, one-tree, link-is, end-below, end-tree, last-end, end-work, series-left, series-below, series-tree, sound-left, sound-below, broken-below, split-tree, broken-is, broken-sized, broken-apart, broken-work}
 use Rattle.sittings.specs.declared.Carried.{Carried}
 use Rattle.sittings.specs.Sittings.{Open, aside, resumed}
-use Rattle.sittings.specs.Entries.{opensIn}
+use Rattle.sittings.specs.Entries.{opensIn, ownEntry, ownCount}
 use Rattle.sittings.proofs.Asides.{tree-fresh}
 use Rattle.sittings.proofs.Bounds.{depth, resumed-ranged, tree-ranged, tree-depth}
 use Rattle.factoring.specs.Carrying.{Carries, Worked}
-use Rattle.factoring.proofs.Splits.{own-fits, ready-worked, stopped-worked, factor-worked, factor-carries, soundOf, brokenOf, isKnown, split-worked, sound-carries, broken-carries, broken-resumed, sound-ranged, broken-ranged, sound-few, broken-few, Bounded, worked-bounded, worked-size}
+use Rattle.factoring.proofs.Splits.{own-fits, known-worked, broken-ready, ready-worked, stopped-worked, factor-worked, factor-carries, knownPair, soundOf, brokenOf, split-worked, sound-carries, broken-carries, broken-resumed, sound-ranged, broken-ranged, sound-few, broken-few, Bounded, worked-bounded, worked-size}
 use borrow.Author.Needs.{needs}
 use borrow.Fn.Kinds.{In}
 use borrow.Fn.PlainCycle.{Measures, is, falls, and}
@@ -126,7 +127,6 @@ claims t = (
   of-broken-reads.Asked,
   of-broken-reads.Learnt,
 )
-
 
 -- what is known after the step was found
 abbrev Told : ℕ → Type 0
@@ -643,6 +643,23 @@ run-run-requires-3 t c κs =
       ),
     )
 
+-- the sound branch, worked
+abbrev Ran : ℕ → Type 0
+Ran t = run-lts.After-run3 (claims t) (run-at t) run.Post
+
+abbrev asked-of : (t : ℕ) → Ran t → Asked t
+asked-of t w = w .before .before .before .before .before .before .before .before .before .before .before .before
+
+ran-worked : (t : ℕ) (w : Ran t) → let q = asked-of t w in
+    Worked (soundOf (tree (sound t (state t q))) (row t q) (depth-at t q) (inner t q) false) (limit t q - own t q) (row t q) (suc (depth-at t q)) (w .run3 .result) (w .run3 .last .1 .1 .1 .1 .1 .1 .1 .1 .0)
+ran-worked t w =
+    let j = w .before .before .before .before .before .before .before .before in
+    let q = asked-of t w in
+    let k = depth-at t q in
+    let after = w .run3 .last .1 .1 .1 .1 .1 .1 .1 .1 .0 in
+    subst (λ (x : ℕ). Worked (resumed (tree (sound t (state t q))) (opensIn (row t q) x (inner t q))) (limit t q - own t q) (row t q) x (w .run3 .result) after) (add-one k)
+    (subst (λ (u : Tree). Worked (resumed u (opensIn (row t q) (k + 1) (inner t q))) (limit t q - own t q) (row t q) (k + 1) (w .run3 .result) after) (sym (sound-worked t j)) (w .run3 .ensures))
+
 -- ---- where the ways of the sound branch meet
 abbrev Met : ℕ → Type 0
 Met t = run-lts.Joined3 (claims t) (run-at t) run.Post
@@ -657,9 +674,357 @@ module _ (t : ℕ) (m : Met t) where
   abbrev SoundWorked : Type 0
   SoundWorked = Worked (S₁ t at) (limit t at - own t at) given-row (suc (depth-at t at)) (m .if3 .sound) (m .if3 .row) × (isIt t at ≡ true → m .if3 .row ≡ given-row)
 
+  -- it is known
+  known-given : (e : run-lts.Then3·own (claims t) (run-at t) run.Post at) (a : run-lts.After-known-at-arg·own (claims t) (run-at t) run.Post (record { before = at; if3 = e }))
+      (k : run-lts.After-known-at·own (claims t) (run-at t) run.Post (record { before = record { before = at; if3 = e }; known-at-arg = a })) → m .if3 .row ≡ given-row → m .if3 .sound ≡ k .result → SoundWorked
+  known-given e a k rows sounds =
+      let w = known-worked (knownPair given-row (depth-at t at)) (limit t at - own t at) given-row (suc (depth-at t at)) (k .result) (k .ensures .0) (k .ensures .1) in
+      let u = subst (λ (b : Bool). Worked (soundOf (tree (sound t (state t at))) given-row (depth-at t at) (inner t at) b) (limit t at - own t at) given-row (suc (depth-at t at)) (k .result) given-row) (sym (e .taken)) w in (
+        subst (λ (r : List ℕ). Worked (S₁ t at) (limit t at - own t at) given-row (suc (depth-at t at)) (m .if3 .sound) r) (sym rows)
+            (subst (λ (c : Carried). Worked (S₁ t at) (limit t at - own t at) given-row (suc (depth-at t at)) c given-row) (sym sounds) u),
+        λ i. rows,
+      )
+
+  -- it is worked
+  ran-given : (e : isIt t at ≡ false) (c : Carried) (after : List ℕ)
+      → Worked (soundOf (tree (sound t (state t at))) given-row (depth-at t at) (inner t at) false) (limit t at - own t at) given-row (suc (depth-at t at)) c after
+      → m .if3 .row ≡ after → m .if3 .sound ≡ c → SoundWorked
+  ran-given e c after w rows sounds =
+      let u = subst (λ (b : Bool). Worked (soundOf (tree (sound t (state t at))) given-row (depth-at t at) (inner t at) b) (limit t at - own t at) given-row (suc (depth-at t at)) c after) (sym e) w in (
+        subst (λ (r : List ℕ). Worked (S₁ t at) (limit t at - own t at) given-row (suc (depth-at t at)) (m .if3 .sound) r) (sym rows)
+            (subst (λ (d : Carried). Worked (S₁ t at) (limit t at - own t at) given-row (suc (depth-at t at)) d after) (sym sounds) u),
+        λ i. absurd (true≢false (sym i ∙ e)),
+      )
+
   sound-given : SoundWorked
-  sound-given = go (m .if3 .came)
-    where
-      go : _ → SoundWorked
-      go (inl x) = ?
-      go (inr x) = ?
+  sound-given = elim (m .if3 .came) [
+    | inl x ↦ known-given (x .0) (x .1) (x .2) (x .3) (x .4)
+    | inr x ↦ ran-given (x .0 .left) (x .11 .result) _ (ran-worked t (record { before = record { before = record { before = record { before = record { before = record { before = record { before = record { before = record { before = record { before = record { before = record { before = at; if3 = x .0 }; assembled3 = x .1 }; contracted = x .2 }; parallel2 = x .3 }; s = x .4 }; run-arg13 = x .5 }; run-arg14 = x .6 }; run-arg15 = x .7 }; run-arg16 = x .8 }; run-arg17 = x .9 }; run-arg18 = x .10 }; run3 = x .11 })) (x .12) (x .13)
+  ]
+
+  -- what is known of its figure
+  sound-figure : Bounded (m .if3 .sound .figure) (limit t at - own t at)
+  sound-figure = worked-bounded (sound-bounds t at) (sound-given .0)
+
+  sound-count : m .if3 .sound .aside ≤ 64
+  sound-count = omega (arith, sound-given .0 .count, sound-open t at (limit t at - own t at))
+
+  sound-size : length (m .if3 .row) ≡ 192
+  sound-size = worked-size (split-carries t (state t at) .size) (sound-given .0)
+
+  -- the link of the split
+  abbrev chosen : Link
+  chosen = at .before .before .before .before .before .link-at4 .result
+
+  chosen-row : chosen ≡ linkRow (n t (state t at) .a) (n t (state t at) .b) (n t (state t at) .low) (n t (state t at) .high) (place t (state t at))
+  chosen-row = at .before .before .before .before .before .link-at4 .ensures
+
+  chosen-link : chosen ≡ link t (state t at)
+  chosen-link = link-is (n t (state t at)) (workable t (told t (state t at))) chosen (place t (state t at)) (split-fits t (state t at) .placed) chosen-row
+
+  chosen-within : Within (chosen .low) (chosen .high)
+  chosen-within = let w = workable t (told t (state t at)) in link-within (n t (state t at)) (w .holds) (w .sized) chosen (place t (state t at)) (split-fits t (state t at) .placed) chosen-link
+
+  chosen-ends : (chosen .a < 32) × (chosen .b < 32)
+  chosen-ends =
+      let w = workable t (told t (state t at)) in
+      subst (λ (e : Link). (e .a < 32) × (e .b < 32)) (sym chosen-row) (ends-below (n t (state t at)) (w .sized) (w .holds) (place t (state t at)) (split-fits t (state t at) .placed))
+
+-- ---- the broken branch
+
+run-without-requires-2 : (t : ℕ) → run-lts.Need-without-requires-2 (claims t) (run-at t) run.Post
+run-without-requires-2 t c κs = split-fits t (state t (at t c)) .placed .below
+
+run-take-out-requires : (t : ℕ) → run-lts.Need-take-out-requires (claims t) (run-at t) run.Post
+run-take-out-requires t c κs =
+    let m = c .before .before .before in
+    let s = state t (at t m) in
+    (workable t (told t s) .sized .at-length, omega (arith, chosen-ends t m), split-fits t s .placed .below)
+
+run-take-out-requires-2 : (t : ℕ) → run-lts.Need-take-out-requires-2 (claims t) (run-at t) run.Post
+run-take-out-requires-2 t c κs =
+    let m = c .before .before .before .before .before in
+    let s = state t (at t m) in
+    (c .before .take-out .ensures .size ∙ workable t (told t s) .sized .at-length, omega (arith, chosen-ends t m), split-fits t s .placed .below)
+
+abbrev Taken : ℕ → Type 0
+Taken t = run-lts.After-take-out2 (claims t) (run-at t) run.Post
+
+module _ (t : ℕ) (x : Taken t) where
+  abbrev met : Met t
+  met = x .before .before .before .before .before .before
+
+  abbrev splitting : Split-known t
+  splitting = state t (at t met)
+
+  -- the network without the link
+  abbrev without-it : Network
+  without-it =
+      let n = net t (told t splitting) in
+      record { alive = x .before .before .before .before .before .without2 .result; at = x .take-out2 .last .0; low = n .low; high = n .high; a = n .a; b = n .b; nodes = n .nodes }
+
+  without-is : (networkOf without-it ≡ broken t splitting) × Invariant without-it
+  without-is = broken-is (net t (told t splitting)) (workable t (told t splitting)) (place t splitting) (split-fits t splitting) (chosen t met) (chosen-row t met) (x .before .before .before .before .before .without2 .result) _ _ (x .before .before .before .before .before .without2 .ensures) (x .before .before .take-out .ensures) (x .take-out2 .ensures)
+
+  without-sized : Sized without-it
+  without-sized = broken-sized (net t (told t splitting)) (workable t (told t splitting)) (place t splitting) (split-fits t splitting) (chosen t met) (chosen-row t met) (x .before .before .before .before .before .without2 .result) _ _ (x .before .before .before .before .before .without2 .ensures) (x .before .before .take-out .ensures) (x .take-out2 .ensures)
+
+run-count-requires : (t : ℕ) → run-lts.Need-count-requires (claims t) (run-at t) run.Post
+run-count-requires t c κs =
+    let x = c .before in
+    (without-sized t x .nodes, without-is t x .1 .tallies, ended (without-it t x) (without-sized t x) (without-is t x .1 .valid))
+
+run-settled-requires-3 : (t : ℕ) → run-lts.Need-settled-requires-3 (claims t) (run-at t) run.Post
+run-settled-requires-3 t c κs = search needs
+
+run-whole-requires-4 : (t : ℕ) → run-lts.Need-whole-requires-4 (claims t) (run-at t) run.Post
+run-whole-requires-4 t c κs = search needs
+
+abbrev Counted : ℕ → Type 0
+Counted t = run-lts.After-count (claims t) (run-at t) run.Post
+
+module _ (t : ℕ) (n : Counted t) where
+  abbrev taken-out : Taken t
+  taken-out = n .before .before
+
+  without-apart : 1 < n .count .result → tree (broken t (splitting t taken-out)) ≡ ready (λ d. 0)
+  without-apart =
+      let x = taken-out in
+      let s = splitting t x in
+      broken-apart (net t (told t s)) (workable t (told t s)) (place t s) (split-fits t s) (chosen t (met t x)) (chosen-row t (met t x)) (x .before .before .before .before .before .without2 .result) _ _ (x .before .before .before .before .before .without2 .ensures) (x .before .before .take-out .ensures) (x .take-out2 .ensures) (n .count .result) (n .count .ensures)
+
+  without-work : n .count .result ≤ 1 → Workable (without-it t taken-out)
+  without-work =
+      let x = taken-out in
+      let s = splitting t x in
+      broken-work (net t (told t s)) (workable t (told t s)) (place t s) (split-fits t s) (chosen t (met t x)) (chosen-row t (met t x)) (x .before .before .before .before .before .without2 .result) _ _ (x .before .before .before .before .before .without2 .ensures) (x .before .before .take-out .ensures) (x .take-out2 .ensures) (n .count .result) (n .count .ensures)
+
+-- ---- the split, from what its branches gave
+
+module _ (t : ℕ) (m : Met t) where
+  closing : (b r : Carried) (end after : List ℕ) → let q = at t m in
+      Worked (B₁ t q) (limit t q - own t q - m .if3 .sound .figure .steps) (m .if3 .row) (suc (depth-at t q)) b end
+      → r .figure ≡ more (own t q) (mixed (chosen t m) (m .if3 .sound .figure) (b .figure)) → r .aside ≡ ownCount (m .if3 .sound .figure) (b .figure) (m .if3 .sound .aside) (b .aside)
+      → after ≡ sets end (3 * depth-at t q) (ownEntry (q .before .before .before .before .place .result) (m .if3 .sound .figure) (b .figure))
+      → Worked (resumed (tree (networkOf (n t (state t q)))) (openOf t (told t (state t q)))) (limit t q) (row t q) (depth-at t q) r after
+  closing b r end after worked figure count written =
+      let q = at t m in
+      let s = state t q in
+      subst (λ (u : Tree). Worked (resumed u (opensIn (row t q) (depth-at t q) (splits-left t q))) (limit t q) (row t q) (depth-at t q) r after) (sym (split-is t s))
+      (split-worked (indexOf (n t s) (place t s)) (link t s) (tree (sound t s)) (tree (broken t s)) (row t q) (depth-at t q) (splits-left t q) (inner t q) (q .before .before .behind .ensures) (isIt t q) (q .is-known .ensures) (own t q) (q .before .before .before .own-steps .ensures) (limit t q) (going t q)
+      (tree-fresh (broken t s)) (m .if3 .sound) b r (m .if3 .row) end after (sound-given t m .0) worked
+      (figure ∙ ap (λ (e : Link). more (own t q) (mixed e (m .if3 .sound .figure) (b .figure))) (chosen-link t m)) count
+      (written ∙ ap (λ (i : ℕ). sets end (3 * depth-at t q) (ownEntry i (m .if3 .sound .figure) (b .figure))) (q .before .before .before .before .place .ensures)))
+
+  -- what it takes itself
+  own-within : own t (at t m) ≤ limit t (at t m)
+  own-within = let q = at t m in own-fits (splits-left t q) (limit t q) (own t q) (q .before .before .before .own-steps .ensures) (going t q)
+
+-- it is apart
+abbrev Apart : ℕ → Type 0
+Apart t = run-lts.After-whole4 (claims t) (run-at t) run.Post
+
+module _ (t : ℕ) (c : Apart t) where
+  abbrev apart-counted : Counted t
+  apart-counted = c .before .before .before .before
+
+  abbrev apart-met : Met t
+  apart-met = met t (taken-out t apart-counted)
+
+  apart-figure : c .whole4 .result .figure ≡ bounded (λ d. 0) 0 true
+  apart-figure = c .whole4 .ensures .0 ∙ c .before .settled3 .ensures
+
+  apart-worked : (l : ℕ) → let m = apart-met in let q = at t m in Worked (B₁ t q) l (m .if3 .row) (suc (depth-at t q)) (c .whole4 .result) (m .if3 .row)
+  apart-worked l =
+      let m = apart-met in
+      let q = at t m in
+      let none = without-apart t apart-counted (omega (arith, c .before .before .before .if4 .taken)) in
+      subst (λ (u : Tree). Worked u l (m .if3 .row) (suc (depth-at t q)) (c .whole4 .result) (m .if3 .row)) (sym (broken-ready none (row t q) (depth-at t q) (inner t q) (isIt t q)))
+      (known-worked (λ d. 0) l (m .if3 .row) (suc (depth-at t q)) (c .whole4 .result) apart-figure (c .whole4 .ensures .1))
+
+run-closed-requires : (t : ℕ) → run-lts.Need-closed-requires (claims t) (run-at t) run.Post
+run-closed-requires t c κs =
+    let m = apart-met t c in
+    let s = state t (at t m) in
+    let e = chosen-within t m in
+    let f = sound-figure t m in
+    let z = apart-figure t c in
+    let low = ap (λ (g : Figure). g .low) z in
+    let high = ap (λ (g : Figure). g .high) z in
+    let steps = ap (λ (g : Figure). g .steps) z in (
+      (row-room t s, sound-size t m),
+      (
+        (e .0, e .1, f .low, f .high, omega (arith, low), omega (arith, high)),
+        (omega (arith, f .steps, steps, own-within t m, given t s .pre .1 .0 .1), sound-count t m, omega (arith, c .whole4 .ensures .1)),
+      ),
+    )
+
+run-returns-3 : (t : ℕ) → run-lts.Need-returns-3 (claims t) (run-at t) run.Post
+run-returns-3 t c =
+    let w = c .before in
+    let m = apart-met t w in
+    closing t m (w .whole4 .result) (c .closed .result) (m .if3 .row) (c .closed .last .0) (apart-worked t w _) (c .closed .ensures .0) (c .closed .ensures .1 .0) (c .closed .ensures .1 .1)
+
+-- it is worked
+run-cast-remains : (t : ℕ) → run-lts.Need-cast-remains (claims t) (run-at t) run.Post
+run-cast-remains t c = search needs
+
+run-sub-remains : (t : ℕ) → run-lts.Need-sub-remains (claims t) (run-at t) run.Post
+run-sub-remains t c = sound-figure t (met t (taken-out t (c .before .before))) .steps
+
+run-add-run-2 : (t : ℕ) → run-lts.Need-add-run-2 (claims t) (run-at t) run.Post
+run-add-run-2 t c = let m = met t (taken-out t (c .before .before .before .before)) in omega (arith, row-room t (state t (at t m)))
+
+run-of-broken-requires : (t : ℕ) → run-lts.Need-of-broken-requires (claims t) (run-at t) run.Post
+run-of-broken-requires t c κs = search needs
+
+abbrev Rest : ℕ → Type 0
+Rest t = run-lts.After-of-broken (claims t) (run-at t) run.Post
+
+module _ (t : ℕ) (c : Rest t) where
+  abbrev rest-counted : Counted t
+  rest-counted = c .before .before .before .before .before
+
+  abbrev rest-out : Taken t
+  rest-out = taken-out t rest-counted
+
+  abbrev rest-met : Met t
+  rest-met = met t rest-out
+
+  -- the row and the open splits that it is handed
+  rest-tree : tree (broken t (splitting t rest-out)) ≡ tree (networkOf (without-it t rest-out))
+  rest-tree = ap tree (sym (without-is t rest-out .0))
+
+  rest-carries : let m = rest-met in let q = at t m in Carries (tree (networkOf (without-it t rest-out))) (m .if3 .row) (depth-at t q + 1) (c .of-broken .result)
+  rest-carries =
+      let m = rest-met in
+      let q = at t m in
+      let s = state t q in
+      subst (λ (u : Tree). Carries u (m .if3 .row) (depth-at t q + 1) (c .of-broken .result)) rest-tree
+      (subst (λ (x : ℕ). Carries (tree (broken t s)) (m .if3 .row) x (c .of-broken .result)) (sym (add-one (depth-at t q)))
+      (broken-carries (indexOf (n t s) (place t s)) (link t s) (tree (sound t s)) (tree (broken t s)) (row t q) (depth-at t q) (splits-left t q) (inner t q) (q .before .before .behind .ensures) (isIt t q) (q .is-known .ensures) (split-carries t s)
+      (c .of-broken .result) (c .of-broken .ensures) (m .if3 .row) (sound-size t m) (sound-given t m .1)))
+
+run-run-requires-4 : (t : ℕ) → run-lts.Need-run-requires-4 (claims t) (run-at t) run.Post
+run-run-requires-4 t c κs =
+    let x = rest-out t c in
+    let s = splitting t x in
+    let o = told t s in
+    let few = fewer (networkOf (net t o)) (without-it t x) (without-is t x .0) (broken-below (net t o) (workable t o) (place t s) (split-fits t s)) in (
+      less t o _ few,
+      (
+        (without-work t (rest-counted t c) (omega (arith, c .before .before .before .before .if4 .left)), omega (arith, o .before .pre .1 .0 .1)),
+        (omega (arith, few, room t o), rest-carries t c),
+      ),
+    )
+
+abbrev Done : ℕ → Type 0
+Done t = run-lts.After-run4 (claims t) (run-at t) run.Post
+
+module _ (t : ℕ) (w : Done t) where
+  abbrev done-met : Met t
+  done-met = rest-met t (w .before)
+
+  abbrev done-row : List ℕ
+  done-row = w .run4 .last .1 .1 .1 .1 .1 .1 .1 .1 .0
+
+  broken-worked : let m = done-met in let q = at t m in Worked (B₁ t q) (limit t q - own t q - m .if3 .sound .figure .steps) (m .if3 .row) (suc (depth-at t q)) (w .run4 .result) done-row
+  broken-worked =
+      let m = done-met in
+      let q = at t m in
+      let s = state t q in
+      let l = limit t q - own t q - m .if3 .sound .figure .steps in
+      let c = w .before in
+      let left = c .of-broken .result in
+      let k = depth-at t q in
+      subst (λ (u : Tree). Worked u l (m .if3 .row) (suc k) (w .run4 .result) done-row)
+      (broken-resumed (indexOf (n t s) (place t s)) (link t s) (tree (sound t s)) (tree (broken t s)) (row t q) k (splits-left t q) (inner t q) (q .before .before .behind .ensures) (isIt t q) (q .is-known .ensures) (split-carries t s)
+      left (c .of-broken .ensures) (m .if3 .row) (sound-given t m .1))
+      (subst (λ (x : ℕ). Worked (resumed (tree (broken t s)) (opensIn (m .if3 .row) x left)) l (m .if3 .row) x (w .run4 .result) done-row) (add-one k)
+      (subst (λ (u : Tree). Worked (resumed u (opensIn (m .if3 .row) (k + 1) left)) l (m .if3 .row) (k + 1) (w .run4 .result) done-row) (sym (rest-tree t c)) (w .run4 .ensures)))
+
+run-closed-requires-2 : (t : ℕ) → run-lts.Need-closed-requires-2 (claims t) (run-at t) run.Post
+run-closed-requires-2 t c κs =
+    let w = c .before in
+    let m = done-met t w in
+    let q = at t m in
+    let s = state t q in
+    let e = chosen-within t m in
+    let f = sound-figure t m in
+    let h = worked-bounded (broken-bounds t q) (broken-worked t w) in (
+      (row-room t s, worked-size (sound-size t m) (broken-worked t w)),
+      (
+        (e .0, e .1, f .low, f .high, h .low, h .high),
+        (omega (arith, f .steps, h .steps, own-within t m, given t s .pre .1 .0 .1), sound-count t m, omega (arith, broken-worked t w .count, broken-open t q (limit t q - own t q - m .if3 .sound .figure .steps))),
+      ),
+    )
+
+run-returns-7 : (t : ℕ) → run-lts.Need-returns-7 (claims t) (run-at t) run.Post
+run-returns-7 t c =
+    let w = c .before .before in
+    closing t (done-met t w) (w .run4 .result) (c .closed2 .result) (done-row t w) (c .closed2 .last .0) (broken-worked t w) (c .closed2 .ensures .0) (c .closed2 .ensures .1 .0) (c .closed2 .ensures .1 .1)
+
+pub +run-spec : {M : Type 1} → statement M
++run-spec = close μ-run λ t. run-lts.spec (claims t)
+    (run-at t)
+    run.Post
+    (run-step-requires t)
+    (run-enum-told t)
+    (run-settled-requires t)
+    (run-whole-requires t)
+    (run-enum-known-v t)
+    (run-link-at-requires t)
+    (run-without-requires t)
+    (run-at-most-one-requires t)
+    (run-settled-requires-2 t)
+    (run-times-requires t)
+    (run-whole-requires-2 t)
+    (run-returns t)
+    (run-assembled-requires t)
+    (run-end-requires t)
+    (run-run-requires t)
+    (run-times-requires-2 t)
+    (run-enum-known-v-2 t)
+    (run-link-at-requires-2 t)
+    (run-link-at-requires-3 t)
+    (run-assembled-requires-2 t)
+    (run-series-requires t)
+    (run-parallel-requires t)
+    (run-run-requires-2 t)
+    (run-times-factor-requires t)
+    (run-enum-known-i t)
+    (run-stopped-requires t)
+    (run-unfinished-requires t)
+    (run-whole-requires-3 t)
+    (run-returns-2 t)
+    (run-link-at-requires-4 t)
+    (run-place-requires t)
+    (run-own-steps-requires t)
+    (run-cast-limited t)
+    (run-sub-limited t)
+    (run-behind-requires t)
+    (run-is-known-requires t)
+    (run-known-at-requires t)
+    (run-assembled-requires-3 t)
+    (run-contracted-requires t)
+    (run-parallel-requires-2 t)
+    (run-add-run t)
+    (run-run-requires-3 t)
+    (run-without-requires-2 t)
+    (run-take-out-requires t)
+    (run-take-out-requires-2 t)
+    (run-count-requires t)
+    (run-settled-requires-3 t)
+    (run-whole-requires-4 t)
+    (run-closed-requires t)
+    (run-returns-3 t)
+    (run-cast-remains t)
+    (run-sub-remains t)
+    (run-add-run-2 t)
+    (run-of-broken-requires t)
+    (run-run-requires-4 t)
+    (run-closed-requires-2 t)
+    (run-returns-4 t)
+    (run-returns-5 t)
+    (run-returns-6 t)
+    (run-returns-7 t)

@@ -1,0 +1,354 @@
+//! A run that is set aside and carried on, one split after the other: those that are open lie on a stack, the outermost lowest.
+//! What a sitting should answer and write.
+
+use crate::arithmetic::S;
+use crate::calls::{answer_bytes, asked, number, read, ANSWER, MOST_STEPS};
+use crate::rule::{figure, Figure, Link, Network, Split, Step};
+
+/// The bytes that a buffer for saved work has to have.
+pub const WORK: usize = 776;
+
+/// The most open splits that saved work may have.
+pub const MOST_OPEN: usize = 64;
+
+/// What a first sitting is handed.
+pub const NOTHING: [u8; 8] = [0; 8];
+
+/// The pair of an open split while its sound branch runs.
+pub const RUNNING: [u32; 2] = [1, 0];
+
+/// The call.
+#[derive(Clone, Copy, Debug)]
+pub struct Sitting<'a> {
+    pub plan: &'a [u8],
+    pub limit: u64,
+    pub saved: &'a [u8],
+}
+
+/// What a sitting writes: the answer, and the saved work.
+#[derive(Clone, Debug, PartialEq, Eq)]
+pub struct Sat {
+    pub answer: Vec<u8>,
+    pub work: Vec<u8>,
+}
+
+/// Saved work that is begun, by its fields: the open splits' places and pairs, and the steps so far.
+#[derive(Clone, Debug, Default, PartialEq, Eq)]
+pub struct Begun {
+    pub places: Vec<u32>,
+    pub pairs: Vec<[u32; 2]>,
+    pub steps: u32,
+}
+
+/// The first eight bytes.
+pub fn sizes(count: usize, state: u16, steps: u32) -> Vec<u8> {
+    let count = u16::try_from(count).expect("c is 16 bits");
+    let halves = [count, state].map(u16::to_le_bytes).concat();
+    [halves, steps.to_le_bytes().into()].concat()
+}
+
+impl Begun {
+    pub fn bytes(&self) -> Vec<u8> {
+        let pairs = self.pairs.iter().flatten();
+        let words = self.places.iter().chain(pairs);
+        let sizes = sizes(self.places.len(), 0, self.steps);
+        let words = words.flat_map(|word| word.to_le_bytes());
+        sizes.into_iter().chain(words).collect()
+    }
+
+    /// The fields of bytes of the right length.
+    pub fn of(bytes: &[u8]) -> Begun {
+        let words: Vec<u32> = bytes[4..].chunks(4).map(number).collect();
+        let (places, pairs) = words[1..].split_at(number(&bytes[..2]) as usize);
+        Begun {
+            places: places.into(),
+            pairs: pairs.chunks(2).map(|pair| [pair[0], pair[1]]).collect(),
+            steps: words[0],
+        }
+    }
+
+    fn wrong(&self) -> bool {
+        let wrong = |pair: &[u32; 2]| {
+            let [low, high] = *pair;
+            *pair != RUNNING && (low > S || high > S || low > high)
+        };
+        self.pairs.iter().any(wrong)
+    }
+}
+
+/// Saved work as it is accepted.
+enum Saved {
+    Begun(Begun),
+    Complete,
+}
+
+/// Row 10.
+fn accepted(bytes: &[u8]) -> Result<Saved, u64> {
+    if bytes.len() < NOTHING.len() {
+        return Err(10);
+    }
+    let [count, state] = [0, 2].map(|at| number(&bytes[at..at + 2]) as usize);
+    let length = match state {
+        0 if count <= MOST_OPEN => 8 + 12 * count,
+        1 if count == 0 => 8 + ANSWER,
+        _ => return Err(10),
+    };
+    if bytes.len() != length || u64::from(number(&bytes[4..8])) > MOST_STEPS {
+        return Err(10);
+    }
+    if state == 1 {
+        return Ok(Saved::Complete);
+    }
+    let begun = Begun::of(bytes);
+    if begun.wrong() {
+        return Err(10);
+    }
+    Ok(Saved::Begun(begun))
+}
+
+/// What an open split waits for: its sound branch, with the broken one still to work, or its broken branch.
+enum Waits {
+    ForSound { broken: Network },
+    ForBroken { sound: Figure },
+}
+
+struct Open {
+    factors: Vec<[u32; 2]>,
+    place: u32,
+    link: Link,
+    waits: Waits,
+}
+
+/// A network with steps 1 to 6 taken as often as they fit: the factors that they leave, and what is known then or the split.
+struct Reduced {
+    factors: Vec<[u32; 2]>,
+    end: Result<u32, Split>,
+}
+
+fn reduced(mut network: Network) -> Reduced {
+    let mut factors = Vec::new();
+    loop {
+        let end = match network.step() {
+            Step::Known(value) => Ok(value),
+            Step::Split(split) => Err(split),
+            Step::Rest(rest, factor) => {
+                factors.push(factor);
+                network = rest;
+                continue;
+            }
+        };
+        return Reduced { factors, end };
+    }
+}
+
+fn multiplied(figure: Figure, factors: &[[u32; 2]]) -> Figure {
+    let inner_first = factors.iter().rev();
+    inner_first.fold(figure, |figure, factor| figure.times(*factor))
+}
+
+/// A figure known by its pair.
+fn settled([low, high]: [u32; 2]) -> Figure {
+    Figure {
+        low,
+        high,
+        steps: 0,
+        finished: true,
+    }
+}
+
+impl Open {
+    /// The figure of the split and of the steps before it.
+    fn closed(&self, sound: Figure, broken: Figure) -> Figure {
+        multiplied(self.link.mixed(sound, broken), &self.factors)
+    }
+
+    fn pair(&self) -> [u32; 2] {
+        match &self.waits {
+            Waits::ForSound { .. } => RUNNING,
+            Waits::ForBroken { sound } => [sound.low, sound.high],
+        }
+    }
+}
+
+/// A run between two of its steps.
+struct Run {
+    open: Vec<Open>,
+    taken: u64,
+}
+
+impl Run {
+    /// With the open splits of saved work, each where the rule comes to it, and the network that is worked next; or row 11.
+    fn resumed(plan: Network, begun: &Begun) -> Result<(Run, Network), u64> {
+        let mut open = Vec::new();
+        let mut next = plan;
+        for (place, pair) in begun.places.iter().zip(&begun.pairs) {
+            let Reduced { factors, end } = reduced(next);
+            let split = end.err().ok_or(11u64)?;
+            if *place != split.place {
+                return Err(11);
+            }
+            let waits;
+            (waits, next) = if *pair == RUNNING {
+                let broken = split.broken;
+                (Waits::ForSound { broken }, split.sound)
+            } else {
+                let sound = settled(*pair);
+                (Waits::ForBroken { sound }, split.broken)
+            };
+            open.push(Open {
+                factors,
+                place: split.place,
+                link: split.link,
+                waits,
+            });
+        }
+        let taken = begun.steps.into();
+        Ok((Run { open, taken }, next))
+    }
+
+    /// A figure is known: it is that of the branch that the innermost open split waits for. The whole figure, or the broken
+    /// branch that is worked next.
+    fn branch_known(&mut self, mut figure: Figure) -> Result<Figure, Network> {
+        while let Some(mut open) = self.open.pop() {
+            match open.waits {
+                Waits::ForSound { broken } => {
+                    open.waits = Waits::ForBroken { sound: figure };
+                    self.open.push(open);
+                    return Err(broken);
+                }
+                Waits::ForBroken { sound } => figure = open.closed(sound, figure),
+            }
+        }
+        Ok(figure)
+    }
+
+    /// The figure at a split for which no step is left, so for none of the broken branches behind.
+    fn set_aside(&self, figure_here: Figure) -> Figure {
+        let mut whole = figure_here;
+        for open in self.open.iter().rev() {
+            whole = match &open.waits {
+                Waits::ForSound { broken } => open.closed(whole, figure(broken.clone(), 0)),
+                Waits::ForBroken { sound } => open.closed(*sound, whole),
+            };
+        }
+        whole
+    }
+
+    /// Works the network and what is open, with so many steps more at most. `at_split` is told how many splits are open at
+    /// each that the run comes to.
+    fn carry_on(
+        &mut self,
+        mut next: Network,
+        limit: u64,
+        mut at_split: impl FnMut(usize),
+    ) -> Figure {
+        let most = self.taken + limit;
+        loop {
+            let Reduced { factors, end } = reduced(next);
+            let split = match end {
+                Ok(value) => match self.branch_known(multiplied(Figure::known(value), &factors)) {
+                    Ok(whole) => return whole,
+                    Err(broken) => {
+                        next = broken;
+                        continue;
+                    }
+                },
+                Err(split) => split,
+            };
+            at_split(self.open.len());
+            if self.taken == most {
+                return self.set_aside(multiplied(Figure::unknown(), &factors));
+            }
+            self.taken += 1;
+            next = split.sound;
+            self.open.push(Open {
+                factors,
+                place: split.place,
+                link: split.link,
+                waits: Waits::ForSound {
+                    broken: split.broken,
+                },
+            });
+        }
+    }
+
+    /// The answer of the run so far, and its saved work.
+    fn sat(&self, figure: Figure) -> Sat {
+        let steps = self.taken;
+        let answer = answer_bytes(&Figure { steps, ..figure }.into());
+        let work = if figure.finished {
+            [sizes(0, 1, steps as u32), answer.clone()].concat()
+        } else {
+            let begun = Begun {
+                places: self.open.iter().map(|open| open.place).collect(),
+                pairs: self.open.iter().map(Open::pair).collect(),
+                steps: steps as u32,
+            };
+            begun.bytes()
+        };
+        Sat { answer, work }
+    }
+}
+
+impl Sitting<'_> {
+    /// What the sitting should write to buffers of these sizes, or the number that it is refused with.
+    pub fn outcome(&self, answer_room: usize, work_room: usize) -> Result<Sat, u64> {
+        asked(self.limit, answer_room)?;
+        if work_room < WORK {
+            return Err(9);
+        }
+        let plan = Network::from(&read(self.plan)?);
+        match accepted(self.saved)? {
+            Saved::Complete => Ok(Sat {
+                answer: self.saved[8..].into(),
+                work: self.saved.into(),
+            }),
+            Saved::Begun(begun) => {
+                let (mut run, next) = Run::resumed(plan, &begun)?;
+                let limit = self.limit.min(MOST_STEPS - run.taken);
+                let figure = run.carry_on(next, limit, |_| ());
+                Ok(run.sat(figure))
+            }
+        }
+    }
+}
+
+/// The number that a sitting returns with that outcome, and what it leaves of the buffers.
+pub fn left(outcome: &Result<Sat, u64>, answer: &[u8], work: &[u8]) -> (u64, Vec<u8>, Vec<u8>) {
+    match outcome {
+        Err(refusal) => (*refusal, answer.to_vec(), work.to_vec()),
+        Ok(sat) => {
+            let over = |new: &[u8], old: &[u8]| [new, &old[new.len()..]].concat();
+            (0, over(&sat.answer, answer), over(&sat.work, work))
+        }
+    }
+}
+
+/// The outcome of a sitting into buffers of just the bytes that it needs, to which the library is held.
+pub fn held(sitting: &Sitting) -> Result<Sat, u64> {
+    held_into(sitting, ANSWER, WORK)
+}
+
+/// The same into buffers of these sizes.
+pub fn held_into(sitting: &Sitting, answer: usize, work: usize) -> Result<Sat, u64> {
+    let outcome = sitting.outcome(answer, work);
+    crate::desk::hold_sitting(sitting, [answer, work], &outcome);
+    outcome
+}
+
+/// The most splits that are ever open when the plan is worked within so many steps, and after how many steps they are first.
+pub fn most_open(plan: &[u8], limit: u64) -> (usize, u64) {
+    let plan = Network::from(&read(plan).expect("the plan is accepted"));
+    let mut run = Run {
+        open: Vec::new(),
+        taken: 0,
+    };
+    let (mut most, mut steps) = ((0, 0), 0);
+    run.carry_on(plan, limit, |open| {
+        if open > most.0 {
+            most = (open, steps);
+        }
+        steps += 1;
+    });
+    most
+}
