@@ -1,2 +1,3 @@
 pub mod Outcome
+pub mod Carrying
 pub mod Chains
