@@ -10,8 +10,8 @@ use Rattle.network.specs.Places.{networkOf, Invariant}
 use Rattle.steps.proofs.Arms.{sized-of, links-few, plain-by, pieces-apart, unpaired-work, unpaired-same}
 use Rattle.sittings.specs.Sittings.{resumed}
 use Rattle.sittings.specs.Entries.{opensIn}
-use Rattle.factoring.specs.Carrying.{Carries, Worked}
-use Rattle.factoring.proofs.Splits.{ready-worked}
+use Rattle.engine.specs.Carrying.{Carries, Worked}
+use Rattle.engine.proofs.Splits.{ready-worked}
 use borrow.Author.Needs.{needs}
 use Rattle.factoring.proofs.carry.Statement.{statement}
 use Rattle.factoring.proofs.carry.Tie as tie

@@ -30,17 +30,17 @@ use Rattle.sittings.specs.Sittings.{Open, aside, resumed}
 use Rattle.sittings.specs.Entries.{opensIn, ownEntry, ownCount}
 use Rattle.sittings.proofs.Asides.{tree-fresh}
 use Rattle.sittings.proofs.Bounds.{depth, resumed-ranged, tree-ranged, tree-depth}
-use Rattle.factoring.specs.Carrying.{Carries, Worked}
-use Rattle.factoring.proofs.Splits.{own-fits, known-worked, broken-ready, ready-worked, stopped-worked, factor-worked, factor-carries, knownPair, soundOf, brokenOf, split-worked, sound-carries, broken-carries, broken-resumed, sound-ranged, broken-ranged, sound-few, broken-few, Bounded, worked-bounded, worked-size}
+use Rattle.engine.specs.Carrying.{Carries, Worked}
+use Rattle.engine.proofs.Splits.{own-fits, known-worked, broken-ready, ready-worked, stopped-worked, factor-worked, factor-carries, knownPair, soundOf, brokenOf, split-worked, sound-carries, broken-carries, broken-resumed, sound-ranged, broken-ranged, sound-few, broken-few, Bounded, worked-bounded, worked-size}
 use borrow.Author.Needs.{needs}
 use borrow.Fn.Kinds.{In}
 use borrow.Fn.PlainCycle.{Measures, is, falls, and}
-use Rattle.factoring.proofs.run.Reads as run
-use Rattle.factoring.proofs.run.Kinds as run-kinds
-use Rattle.factoring.proofs.+run.Lts-run as run-lts
+use Rattle.engine.proofs.run.Reads as run
+use Rattle.engine.proofs.run.Kinds as run-kinds
+use Rattle.engine.proofs.+run.Lts-run as run-lts
 use Rattle.bits.proofs.without.Reads as without-reads
-use Rattle.factoring.proofs.of_broken.Reads as of-broken-reads
-use Rattle.factoring.proofs.whole.Reads as whole-reads
+use Rattle.engine.proofs.of_broken.Reads as of-broken-reads
+use Rattle.engine.proofs.whole.Reads as whole-reads
 use Rattle.figures.proofs.settled.Reads as settled-reads
 use Rattle.figures.proofs.times.Reads as times-reads
 use Rattle.figures.proofs.times_factor.Reads as times-factor-reads
@@ -62,8 +62,8 @@ use Rattle.sittings.proofs.own_steps.Reads as own-steps-reads
 use Rattle.sittings.proofs.stopped.Reads as stopped-reads
 use Rattle.steps.proofs.place.Reads as place-reads
 use Rattle.steps.proofs.step.Reads as step-reads
-use Rattle.factoring.proofs.+run.{statement}
-use Rattle.factoring.proofs.+run.Tie.{close}
+use Rattle.engine.proofs.+run.{statement}
+use Rattle.engine.proofs.+run.Tie.{close}
 
 abbrev μ-run : Measures 2 run-kinds.ps ℕ
 μ-run κs a = length (linksOf (assembled (a .0) (a .1 .0) (a .1 .1 .0 .now) (a .1 .1 .1 .0 .now) (a .1 .1 .1 .1 .0 .now) (a .1 .1 .1 .1 .1 .0 .now) (a .1 .1 .1 .1 .1 .1 .0 .now)))

@@ -23,7 +23,7 @@ use Rattle.sittings.specs.Entries.{pair, entered, openAt, opensIn, entries, own
 use Rattle.sittings.proofs.Sittings.{resumed-none, resumed-multiplied, more-zero}
 use Rattle.sittings.proofs.Asides.{Fresh, aside-done, taken-now, broken-none, own-count, own-written}
 use Rattle.sittings.proofs.Bounds.{depth, resumed-ranged, opens-few, aside-depth}
-use Rattle.factoring.specs.Carrying.{Carries, Worked}
+use Rattle.engine.specs.Carrying.{Carries, Worked}
 
 -- ---- nothing is left to work, or a factor
 
