@@ -99,7 +99,6 @@ pub unlooped-plain : (g : Graph) (r : Network) → networkOf r ≡ withoutLoops 
 unlooped-plain g r is holds few = plain-by r holds (subst Loopless (sym is) (unlooped-none (g .links))) few
 
 -- r is a simple network without a link, in one piece at most
-
 pub deleted-work : (n r : Network) → Workable n → (i : ℕ) → networkOf r ≡ deleted (indexOf n i) (networkOf n) → Sized r → Invariant r → piecesOf (networkOf r) ≤ 1 → Workable r
 deleted-work n r work i is sized holds few = record {
   sized = sized;
