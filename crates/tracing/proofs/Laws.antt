@@ -1,0 +1,108 @@
+-- Whether the open splits of a row are splits of a tree, by what the tree is; and what is left of a network without loops or without a link.
+use Prim.Native.Nat.{ℕ, zero, suc, _+_, _-_, _*_, _≤_}
+use mathlib.Core.Path.{_≡_, refl, sym, ap, ap₂, _∙_, subst}
+use mathlib.Core.List.{List, [], _∷_}
+use mathlib.Core.Bool.{Bool, true, false, not, _&&_}
+use mathlib.Core.Option.{Option, some, none, Option·map}
+use native.Mathlib.Numerals.{add-one}
+use native.Mathlib.Omega.{arith}
+use lib.Dec.{eqb, leb}
+use lib.ListN.{getD}
+use borrow.Author.Tests.{eq-eqb, ne-eqb, le-leb}
+use Rattle.rounding.specs.declared.Direction.{Direction}
+use Rattle.reliability.specs.declared.Link.{Link}
+use Rattle.reliability.specs.Networks.{Network as Graph, piecesOf}
+use Rattle.reliability.specs.Rule.{isLoop, firstAt, deleted, Tree, ready, multiplied, fork}
+use Rattle.reliability.specs.Simple.{Loopless, Plain, Simple, unlooped, withoutLoops}
+use Rattle.reliability.proofs.Lists.{by-eqb}
+use Rattle.reliability.proofs.Simple.{connected-pieces-few, deleted-simple}
+use Rattle.network.specs.declared.Network.{Network}
+use Rattle.network.specs.Places.{networkOf, indexOf, Invariant, Sized}
+use Rattle.steps.specs.Simple.{Workable}
+use Rattle.steps.proofs.Arms.{plain-by}
+use Rattle.sittings.specs.Sittings.{Open, running, known, traced}
+use Rattle.sittings.specs.Entries.{pair, entered, opensIn}
+
+-- ---- open splits
+
+pub traced-multiplied : (v : Direction → ℕ) (t : Tree) (os : List Open) → traced t os ≡ traced (multiplied v t) os
+unfolding traced
+traced-multiplied v t [] = refl
+traced-multiplied v t (o ∷ os) = refl
+
+module _ (row : List ℕ) (k : ℕ) where
+  pub traced-none : (t : Tree) (left : ℕ) → left ≡ 0 → true ≡ traced t (opensIn row k left)
+  unfolding traced opensIn
+  traced-none t left h = ap (λ n. traced t (opensIn row k n)) (sym h)
+
+  pub traced-ready : (v : Direction → ℕ) (left : ℕ) → eqb left 0 ≡ traced (ready v) (opensIn row k left)
+  unfolding traced opensIn
+  traced-ready v zero = refl
+  traced-ready v (suc n) = ne-eqb (suc n) 0 (λ e. absurd (omega arith))
+
+  -- the place of the open split at place k, and whether the figures of its sound branch are known
+  abbrev here : ℕ
+  here = getD row (3 * k) 0
+
+  abbrev isKnown : Bool
+  isKnown = leb (getD row (3 * k + 1) 0) (getD row (3 * k + 2) 0)
+
+  pub known-by : (left : ℕ) → (left ≡ 0 → ⊥) → (not (eqb left 0) && isKnown) ≡ isKnown
+  known-by left h = ap (λ (t : Bool). not t && isKnown) (ne-eqb left 0 h)
+
+  module _ (i : ℕ) (e : Link) (s b : Tree) where
+    -- the branch in which the next one lies
+    abbrev branch : Bool → Tree
+    branch t = elim t [ true ↦ b | false ↦ s ]
+
+    abbrev first : Bool → Open
+    first t = elim t [ true ↦ known here (pair (getD row (3 * k + 1) 0) (getD row (3 * k + 2) 0)) | false ↦ running here ]
+
+    split : (t : Bool) (os : List Open) → (eqb here i && traced (branch t) os) ≡ traced (fork i e s b) (first t ∷ os)
+    unfolding traced
+    split true os = refl
+    split false os = refl
+
+    traced-fork : (left : ℕ) → (left ≡ 0 → ⊥) → (eqb here i && traced (branch isKnown) (opensIn row (k + 1) (left - 1))) ≡ traced (fork i e s b) (opensIn row k left)
+    unfolding opensIn entered
+    traced-fork zero h = absurd (h refl)
+    traced-fork (suc n) h =
+        let less : suc n - 1 ≡ n = omega arith in
+        ap₂ (λ (j m : ℕ). eqb here i && traced (branch isKnown) (opensIn row j m)) (add-one k) less ∙ split isKnown (opensIn row (suc k) n)
+
+    module _ (left : ℕ) (h : left ≡ 0 → ⊥) where
+      pub traced-elsewhere : (here ≡ i → ⊥) → false ≡ traced (fork i e s b) (opensIn row k left)
+      traced-elsewhere other = ap (λ (t : Bool). t && traced (branch isKnown) (opensIn row (k + 1) (left - 1))) (sym (ne-eqb here i other)) ∙ traced-fork left h
+
+      pub traced-here : here ≡ i → (t : Bool) → isKnown ≡ t → traced (branch t) (opensIn row (k + 1) (left - 1)) ≡ traced (fork i e s b) (opensIn row k left)
+      traced-here at t q =
+          ap (λ (u : Bool). traced (branch u) (opensIn row (k + 1) (left - 1))) (sym q)
+          ∙ ap (λ (u : Bool). u && traced (branch isKnown) (opensIn row (k + 1) (left - 1))) (sym (eq-eqb here i at)) ∙ traced-fork left h
+
+-- one is left: none behind it
+pub one-left : (left : ℕ) → (left ≡ 0 → ⊥) → eqb left 1 ≡ eqb (left - 1) 0
+one-left left h = by-eqb (λ b. b ≡ eqb (left - 1) 0) left 1 (λ e. sym (eq-eqb (left - 1) 0 (omega arith))) (λ more. sym (ne-eqb (left - 1) 0 (λ e. more (omega arith))))
+
+-- ---- networks
+
+unlooped-none : (es : List Link) → firstAt isLoop (unlooped es) ≡ none
+unfolding firstAt unlooped
+unlooped-none [] = refl
+unlooped-none (e ∷ es) = go (isLoop e) refl (unlooped-none es)
+  where
+    go : (t : Bool) → isLoop e ≡ t → firstAt isLoop (unlooped es) ≡ none → firstAt isLoop (elim t [ true ↦ unlooped es | false ↦ e ∷ unlooped es ]) ≡ none
+    go true q h = h
+    go false q h = ap₂ (λ (t : Bool) (i : Option ℕ). elim t as (λ x. Option ℕ) [ true ↦ some zero | false ↦ Option·map suc i ]) q h
+
+-- r is a network without its loops, in one piece at most
+pub unlooped-plain : (g : Graph) (r : Network) → networkOf r ≡ withoutLoops g → Invariant r → piecesOf (networkOf r) ≤ 1 → Plain (networkOf r)
+unlooped-plain g r is holds few = plain-by r holds (subst Loopless (sym is) (unlooped-none (g .links))) few
+
+-- r is a simple network without a link, in one piece at most
+pub deleted-work : (n r : Network) → Workable n → (i : ℕ) → networkOf r ≡ deleted (indexOf n i) (networkOf n) → Sized r → Invariant r → piecesOf (networkOf r) ≤ 1 → Workable r
+deleted-work n r work i is sized holds few = record {
+  sized = sized;
+  holds = holds;
+  simple = subst Simple (sym is) (deleted-simple (networkOf n) (work .simple) (indexOf n i)
+      (connected-pieces-few (deleted (indexOf n i) (networkOf n)) ∙ ap (λ g. leb (piecesOf g) 1) (sym is) ∙ le-leb (piecesOf (networkOf r)) 1 few));
+}
