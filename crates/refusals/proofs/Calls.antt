@@ -13,10 +13,10 @@ use Rattle.plan.specs.declared.Verdict.the-variants.{Accepted as PlanAccepted, 
 use Rattle.plan.specs.Plans.{WellFormed, sizeM, verdict, returned}
 use Rattle.plan.proofs.Verdicts.{number-range, accepted-means}
 use Rattle.refusals.specs.declared.CallCause.{CallCause}
-use Rattle.refusals.specs.declared.CallCause.the-variants.{Limit, Buffer, Place, Plan, SecondPlan}
+use Rattle.refusals.specs.declared.CallCause.the-variants.{Limit, Buffer, Place, SavedWork, OpenSplit, Plan, SecondPlan}
 use Rattle.refusals.specs.declared.CallVerdict.{CallVerdict}
 use Rattle.refusals.specs.declared.CallVerdict.the-variants.{Accepted, Refused}
-use Rattle.refusals.specs.Refusals.{callNumber, callReturned, asked, planned, plannedSecond, placed, also, figureVerdict}
+use Rattle.refusals.specs.Refusals.{callNumber, callReturned, asked, workRoom, planned, plannedSecond, placed, also, figureVerdict, sittingVerdict}
 
 -- ---- the numbers returned
 
@@ -24,6 +24,8 @@ pub call-number-range : (c : CallCause) → (1 ≤ callNumber c) × (callNumber 
 call-number-range Limit = omega arith
 call-number-range Buffer = omega arith
 call-number-range Place = omega arith
+call-number-range SavedWork = omega arith
+call-number-range OpenSplit = omega arith
 call-number-range (Plan c) = omega (arith, number-range c)
 call-number-range (SecondPlan c) = omega (arith, number-range c)
 
@@ -56,6 +58,10 @@ asked-means limit room = (
   λ h. simp (le-ltb 1000000 limit (h .0), le-ltb room 16 (h .1)),
 )
 
+pub work-room-means : (work : ℕ) → workRoom work ≡ Accepted ↔ 776 ≤ work
+unfolding workRoom
+work-room-means work = (λ e. ltb-false work 776 (unmet (ltb work 776) Buffer Accepted e .0), λ h. simp (le-ltb work 776 h))
+
 pub placed-means : (plan : List ℕ) (place : ℕ) → placed plan place ≡ Accepted ↔ place < sizeM plan
 unfolding placed
 placed-means plan place = (
@@ -82,3 +88,13 @@ figure-means plan limit room =
     let p = Iff·trans (planned-means (verdict plan)) (accepted-means plan) in
     let e = also-means (asked limit room) (planned (verdict plan)) in
     (λ h. (a .0 (e .0 h .0) .0, a .0 (e .0 h .0) .1, p .0 (e .0 h .1)), λ h. e .1 (a .1 (h .0, h .1), p .1 (h .2)))
+
+-- and of a sitting, but for its saved work: both buffers
+pub sitting-means : (plan : List ℕ) (limit room work : ℕ) → sittingVerdict plan limit room work ≡ Accepted ↔ (limit ≤ 1000000) × (16 ≤ room) × (776 ≤ work) × WellFormed plan
+sitting-means plan limit room work =
+    let a = asked-means limit room in
+    let w = work-room-means work in
+    let p = Iff·trans (planned-means (verdict plan)) (accepted-means plan) in
+    let b = also-means (asked limit room) (workRoom work) in
+    let e = also-means (also (asked limit room) (workRoom work)) (planned (verdict plan)) in
+    (λ h. (a .0 (b .0 (e .0 h .0) .0) .0, a .0 (b .0 (e .0 h .0) .0) .1, w .0 (b .0 (e .0 h .0) .1), p .0 (e .0 h .1)), λ h. e .1 (b .1 (a .1 (h .0, h .1), w .1 (h .2)), p .1 (h .3)))

@@ -7,7 +7,7 @@ use Rattle.plan.specs.declared.Verdict.{Verdict}
 use Rattle.plan.specs.declared.Verdict.the-variants.{Accepted as PlanAccepted, Refused as PlanRefused}
 use Rattle.plan.specs.Plans.{sizeM, verdict, number, namedLink}
 use Rattle.refusals.specs.declared.CallCause.{CallCause}
-use Rattle.refusals.specs.declared.CallCause.the-variants.{Limit, Buffer, Place, Plan, SecondPlan}
+use Rattle.refusals.specs.declared.CallCause.the-variants.{Limit, Buffer, Place, SavedWork, OpenSplit, Plan, SecondPlan}
 use Rattle.refusals.specs.declared.CallVerdict.{CallVerdict}
 use Rattle.refusals.specs.declared.CallVerdict.the-variants.{Accepted, Refused}
 
@@ -18,6 +18,8 @@ abbrev pub callNumber : CallCause → ℕ
 callNumber Limit = 7
 callNumber Buffer = 9
 callNumber Place = 8
+callNumber SavedWork = 10
+callNumber OpenSplit = 11
 callNumber (Plan c) = number c
 callNumber (SecondPlan c) = number c + 20
 
@@ -26,6 +28,8 @@ abbrev pub callLink : CallCause → ℕ
 callLink Limit = 0
 callLink Buffer = 0
 callLink Place = 0
+callLink SavedWork = 0
+callLink OpenSplit = 0
 callLink (Plan c) = namedLink c
 callLink (SecondPlan c) = namedLink c
 
@@ -39,6 +43,10 @@ callReturned (Refused c) = callNumber c + 256 * callLink c
 -- limit above 1,000,000, then answer buffer under 16 bytes
 unfoldable pub asked : ℕ → ℕ → CallVerdict
 asked limit room = cond (ltb 1000000 limit) (Refused Limit) (cond (ltb room 16) (Refused Buffer) Accepted)
+
+-- work buffer under 776 bytes
+unfoldable pub workRoom : ℕ → CallVerdict
+workRoom work = cond (ltb work 776) (Refused Buffer) Accepted
 
 -- the plan's causes, of plan A and of plan B
 abbrev pub planned : Verdict → CallVerdict
@@ -66,3 +74,7 @@ importanceVerdict plan place limit room = also (figureVerdict plan limit room) (
 
 abbrev pub differenceVerdict : List ℕ → List ℕ → ℕ → ℕ → CallVerdict
 differenceVerdict first second limit room = also (figureVerdict first limit room) (plannedSecond (verdict second))
+
+-- of a sitting, before its saved work is looked at
+abbrev pub sittingVerdict : List ℕ → ℕ → ℕ → ℕ → CallVerdict
+sittingVerdict plan limit room work = also (also (asked limit room) (workRoom work)) (planned (verdict plan))

@@ -5,13 +5,15 @@ ghost use mathlib.Core.Path.{_≡_};
 ghost use Prim.Native.Nat.{_≤_};
 ghost use lib.ListN.{length};
 ghost use Rattle.plan.specs.Plans.{verdict};
-ghost use Rattle.refusals.specs.Refusals.{callNumber, callLink, callReturned, asked, planned, plannedSecond, placed, figureVerdict, importanceVerdict};
+ghost use Rattle.refusals.specs.Refusals.{callNumber, callLink, callReturned, asked, workRoom, also, planned, plannedSecond, placed, figureVerdict, importanceVerdict, sittingVerdict};
 
 // Why a call is refused: its own causes, or that of plan A or of plan B.
 pub enum CallCause {
     Limit,
     Buffer,
     Place,
+    SavedWork,
+    OpenSplit,
     Plan(Cause),
     SecondPlan(Cause),
 }
@@ -29,6 +31,8 @@ fn call_number(c: CallCause) -> u8
         CallCause::Limit => 7,
         CallCause::Buffer => 9,
         CallCause::Place => 8,
+        CallCause::SavedWork => 10,
+        CallCause::OpenSplit => 11,
         CallCause::Plan(p) => plan::number_of(p),
         CallCause::SecondPlan(p) => plan::number_of(p) + 20,
     }
@@ -42,6 +46,8 @@ fn call_link(c: CallCause) -> u16
         CallCause::Limit => 0,
         CallCause::Buffer => 0,
         CallCause::Place => 0,
+        CallCause::SavedWork => 0,
+        CallCause::OpenSplit => 0,
         CallCause::Plan(p) => plan::named_link(p),
         CallCause::SecondPlan(p) => plan::named_link(p),
     }
@@ -68,6 +74,23 @@ fn asked_verdict(limit: u64, room: usize) -> CallVerdict
         return CallVerdict::Refused(CallCause::Buffer);
     }
     CallVerdict::Accepted
+}
+
+// And 9 of a sitting, which is lent a buffer for its work too.
+fn sitting_asked(limit: u64, room: usize, work: usize) -> CallVerdict
+    ensures { λ r. ⌜ r ≡ also (asked limit room) (workRoom work) ⌝ }
+{
+    let asked = asked_verdict(limit, room);
+    match asked {
+        CallVerdict::Accepted => {
+            if work < 776 {
+                CallVerdict::Refused(CallCause::Buffer)
+            } else {
+                CallVerdict::Accepted
+            }
+        }
+        CallVerdict::Refused(c) => CallVerdict::Refused(c),
+    }
 }
 
 // Causes 1 to 6, of plan A.
@@ -117,6 +140,16 @@ pub fn importance_verdict(plan: &[u8], place: u64, limit: u64, room: usize) -> C
 {
     match figure_verdict(plan, limit, room) {
         CallVerdict::Accepted => place_verdict(plan, place),
+        CallVerdict::Refused(c) => CallVerdict::Refused(c),
+    }
+}
+
+// What stands before causes 10 and 11.
+pub fn sitting_verdict(plan: &[u8], limit: u64, room: usize, work: usize) -> CallVerdict
+    ensures { λ r. ⌜ r ≡ sittingVerdict (now (plan .entry)) limit room work ⌝ }
+{
+    match sitting_asked(limit, room, work) {
+        CallVerdict::Accepted => plan_verdict(plan),
         CallVerdict::Refused(c) => CallVerdict::Refused(c),
     }
 }

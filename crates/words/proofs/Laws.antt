@@ -1,4 +1,4 @@
--- Four bytes stored, and a number that is written and read back.
+-- Two and four bytes stored, and a number that is written and read back.
 use Prim.Native.Nat.{ℕ, _+_, _/_, _%_, _^_, _≤_, _<_}
 use mathlib.Core.Path.{_≡_, ap, _∙_}
 use mathlib.Core.List.{List, [], _∷_, _++_, append-assoc}
@@ -9,7 +9,10 @@ use lib.ListN.{length, take, drop, set}
 use lib.Seq.{sets-eq, getD-append-add, length-take-le}
 use Rattle.words.specs.Words.{byte, word32, le4, with32}
 
--- four bytes stored one after the other
+-- two and four bytes stored one after the other
+pub stores2 : (l : List ℕ) (at a b : ℕ) → at + 2 ≤ length l → set (set l at a) (at + 1) b ≡ take at l ++ (a ∷ b ∷ []) ++ drop (at + 2) l
+stores2 l at a b h = rw add-one (sets-eq (a ∷ b ∷ []) l at h)
+
 pub stores : (l : List ℕ) (at a b c d : ℕ) → at + 4 ≤ length l
     → set (set (set (set l at a) (at + 1) b) (at + 2) c) (at + 3) d ≡ take at l ++ (a ∷ b ∷ c ∷ d ∷ []) ++ drop (at + 4) l
 stores l at a b c d h = rw (add-one, add-two, add-three) (sets-eq (a ∷ b ∷ c ∷ d ∷ []) l at h)
@@ -21,14 +24,14 @@ whole32 x rest h =
     omega (arith, div-div-eq-div-mul x 256 256, div-div-eq-div-mul x 65536 256)
 
 -- a word behind other bytes
-behind32 : (p q : List ℕ) (at : ℕ) → length p ≡ at → word32 (p ++ q) at ≡ word32 q 0
-behind32 p q at e =
-    let moved : (k n : ℕ) → k ≡ length p + n → byte (p ++ q) k ≡ byte q n = λ k n h. ap (byte (p ++ q)) h ∙ getD-append-add p q n 0 in
-    omega (arith, moved at 0 (omega arith), moved (at + 1) 1 (omega arith), moved (at + 2) 2 (omega arith), moved (at + 2 + 1) 3 (omega arith))
+pub behind32 : (p q : List ℕ) (at n : ℕ) → at ≡ length p + n → word32 (p ++ q) at ≡ word32 q n
+behind32 p q at n e =
+    let moved : (k m : ℕ) → k ≡ length p + m → byte (p ++ q) k ≡ byte q m = λ k m h. ap (byte (p ++ q)) h ∙ getD-append-add p q m 0 in
+    omega (arith, moved at n e, moved (at + 1) (n + 1) (omega arith), moved (at + 2) (n + 2) (omega arith), moved (at + 2 + 1) (n + 2 + 1) (omega arith))
 
 -- what is written is read back
 pub read-back32 : (b : List ℕ) (at x : ℕ) → at + 4 ≤ length b → x < 2 ^ 32 → word32 (with32 b at x) at ≡ x
 read-back32 b at x room h =
     ap (λ (l : List ℕ). word32 l at) (append-assoc (take at b) (le4 x) (drop (at + 4) b))
-    ∙ behind32 (take at b) (le4 x ++ drop (at + 4) b) at (length-take-le at b (omega arith))
+    ∙ behind32 (take at b) (le4 x ++ drop (at + 4) b) at 0 (omega (arith, length-take-le at b (omega arith)))
     ∙ whole32 x (drop (at + 4) b) h

@@ -2,7 +2,7 @@
 ghost use mathlib.Core.Path.{_≡_};
 ghost use Prim.Native.Nat.{_+_, _≤_};
 ghost use lib.ListN.{length};
-ghost use Rattle.words.specs.Words.{byte, word16, word32, with32};
+ghost use Rattle.words.specs.Words.{byte, word16, word32, with16, with32};
 
 // The number in one, two and four bytes from a place on.
 pub fn byte(s: &[u8], at: usize) -> u8
@@ -30,7 +30,15 @@ pub fn word32(s: &[u8], at: usize) -> u32
     low + 65_536 * high
 }
 
-// A number in the four bytes from a place on; the others keep their contents.
+// A number in the two or four bytes from a place on; the others keep their contents.
+pub fn put_word16(b: &mut [u8], at: usize, x: u16)
+    requires { ⌜ at + 2 ≤ length (now b) ⌝ }
+    ensures { λ _. ⌜ now (b .exit) ≡ with16 (now (b .entry)) at x ⌝ }
+{
+    b[at] = (x % 256) as u8;
+    b[at + 1] = (x / 256) as u8;
+}
+
 pub fn put_word32(b: &mut [u8], at: usize, x: u32)
     requires { ⌜ at + 4 ≤ length (now b) ⌝ }
     ensures { λ _. ⌜ now (b .exit) ≡ with32 (now (b .entry)) at x ⌝ }
