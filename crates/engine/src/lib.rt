@@ -1,10 +1,7 @@
 // The engine: the written rule on a simple network by value, from work set aside or from nothing.
 use network::Network;
-use reliability::Figure;
 use sittings::Carried;
 use steps::Next;
-ghost use mathlib.Core.Path.{_≡_};
-ghost use mathlib.Core.Bool.{cond};
 ghost use Prim.Native.Nat.{_+_, _^_, _≤_, _<_};
 ghost use lib.ListN.{length};
 ghost use Rattle.reliability.specs.Rule.{tree};
@@ -13,20 +10,6 @@ ghost use Rattle.steps.specs.Simple.{Workable};
 ghost use Rattle.sittings.specs.Sittings.{resumed};
 ghost use Rattle.sittings.specs.Entries.{opensIn};
 ghost use Rattle.engine.specs.Carrying.{Carries, Worked};
-
-// A figure with nothing set aside.
-pub fn whole(figure: Figure) -> Carried
-    ensures { λ r. ⌜ (r .figure ≡ figure) × (r .aside ≡ 0) ⌝ }
-{
-    Carried { figure, aside: 0 }
-}
-
-// The open splits of the broken branch: those left where the sound branch is known, else none.
-fn of_broken(known: bool, left: usize) -> usize
-    ensures { λ r. ⌜ r ≡ cond known left 0 ⌝ }
-{
-    if known { left } else { 0 }
-}
 
 // The figure of a simple network, given by its parts, under a limit, and what it sets aside: what each step leaves is worked by
 // the same rule, with a link less. Of the row the open splits from place k on, as many as are left, are taken already.
@@ -48,11 +31,15 @@ pub fn run<'r>(
     ensures { λ r. ⌜ Worked (resumed (tree (networkOf (assembled alive nodes (now (at .entry)) (now (a .entry)) (now (b .entry)) (now (low .entry)) (now (high .entry))))) (opensIn (now (row .entry)) k left)) limit (now (row .entry)) k r (now (row .exit)) ⌝ }
 {
     match steps::step(alive, nodes, at, a, b, low, high) {
-        Next::OneNode => whole(figures::settled(1_000_000_000)),
+        Next::OneNode => sittings::whole(figures::settled(1_000_000_000)),
         Next::End(v, i) => {
             let e = network::link_at(a, b, low, high, i);
             if search::at_most_one(bits::without(nodes as u64, v)) {
-                return whole(figures::times(e.low, e.high, figures::settled(1_000_000_000)));
+                return sittings::whole(figures::times(
+                    e.low,
+                    e.high,
+                    figures::settled(1_000_000_000),
+                ));
             }
             let r = network::assembled(alive, nodes, at, a, b, low, high).end(v, i);
             let f = run(
@@ -101,7 +88,7 @@ pub fn run<'r>(
         }
         Next::Split(i) => {
             if sittings::stopped(left, limit) {
-                return whole(figures::unfinished());
+                return sittings::whole(figures::unfinished());
             }
             let e = network::link_at(a, b, low, high, i);
             let place = steps::place(alive, i);
@@ -134,7 +121,15 @@ pub fn run<'r>(
             parts::take_out(&mut rest, e.a, i);
             parts::take_out(&mut rest, e.b, i);
             if 1 < pieces::count(nodes as u64, others, &rest, a, b) {
-                return sittings::closed(row, k, place, e, own, sound, whole(figures::settled(0)));
+                return sittings::closed(
+                    row,
+                    k,
+                    place,
+                    e,
+                    own,
+                    sound,
+                    sittings::whole(figures::settled(0)),
+                );
             }
             let remains = limited - (sound.figure.steps as u64);
             let broken = run(
@@ -148,7 +143,7 @@ pub fn run<'r>(
                 remains,
                 row,
                 k + 1,
-                of_broken(known, inner),
+                sittings::of_broken(known, inner),
             );
             sittings::closed(row, k, place, e, own, sound, broken)
         }

@@ -39,8 +39,8 @@ use Rattle.engine.proofs.run.Reads as run
 use Rattle.engine.proofs.run.Kinds as run-kinds
 use Rattle.engine.proofs.+run.Lts-run as run-lts
 use Rattle.bits.proofs.without.Reads as without-reads
-use Rattle.engine.proofs.of_broken.Reads as of-broken-reads
-use Rattle.engine.proofs.whole.Reads as whole-reads
+use Rattle.sittings.proofs.of_broken.Reads as of-broken-reads
+use Rattle.sittings.proofs.whole.Reads as whole-reads
 use Rattle.figures.proofs.settled.Reads as settled-reads
 use Rattle.figures.proofs.times.Reads as times-reads
 use Rattle.figures.proofs.times_factor.Reads as times-factor-reads
