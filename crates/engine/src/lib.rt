@@ -35,11 +35,8 @@ pub fn run<'r>(
         Next::End(v, i) => {
             let e = network::link_at(a, b, low, high, i);
             if search::at_most_one(bits::without(nodes as u64, v)) {
-                return sittings::whole(figures::times(
-                    e.low,
-                    e.high,
-                    figures::settled(1_000_000_000),
-                ));
+                let one = figures::settled(1_000_000_000);
+                return sittings::whole(figures::times(e.low, e.high, one));
             }
             let r = network::assembled(alive, nodes, at, a, b, low, high).end(v, i);
             let f = run(
@@ -121,15 +118,8 @@ pub fn run<'r>(
             parts::take_out(&mut rest, e.a, i);
             parts::take_out(&mut rest, e.b, i);
             if 1 < pieces::count(nodes as u64, others, &rest, a, b) {
-                return sittings::closed(
-                    row,
-                    k,
-                    place,
-                    e,
-                    own,
-                    sound,
-                    sittings::whole(figures::settled(0)),
-                );
+                let none = sittings::whole(figures::settled(0));
+                return sittings::closed(row, k, place, e, own, sound, none);
             }
             let remains = limited - (sound.figure.steps as u64);
             let broken = run(

@@ -826,7 +826,7 @@ Apart t = run-lts.After-whole4 (claims t) (run-at t) run.Post
 
 module _ (t : ℕ) (c : Apart t) where
   abbrev apart-counted : Counted t
-  apart-counted = c .before .before .before .before
+  apart-counted = c .before .before .before
 
   abbrev apart-met : Met t
   apart-met = met t (taken-out t apart-counted)
@@ -838,12 +838,13 @@ module _ (t : ℕ) (c : Apart t) where
   apart-worked l =
       let m = apart-met in
       let q = at t m in
-      let none = without-apart t apart-counted (omega (arith, c .before .before .before .if4 .taken)) in
+      let none = without-apart t apart-counted (omega (arith, c .before .before .if4 .taken)) in
       subst (λ (u : Tree). Worked u l (m .if3 .row) (suc (depth-at t q)) (c .whole4 .result) (m .if3 .row)) (sym (broken-ready none (row t q) (depth-at t q) (inner t q) (isIt t q)))
       (known-worked (λ d. 0) l (m .if3 .row) (suc (depth-at t q)) (c .whole4 .result) apart-figure (c .whole4 .ensures .1))
 
 run-closed-requires : (t : ℕ) → run-lts.Need-closed-requires (claims t) (run-at t) run.Post
-run-closed-requires t c κs =
+run-closed-requires t d κs =
+    let c = d .before in
     let m = apart-met t c in
     let s = state t (at t m) in
     let e = chosen-within t m in
@@ -861,7 +862,7 @@ run-closed-requires t c κs =
 
 run-returns-3 : (t : ℕ) → run-lts.Need-returns-3 (claims t) (run-at t) run.Post
 run-returns-3 t c =
-    let w = c .before in
+    let w = c .before .before in
     let m = apart-met t w in
     closing t m (w .whole4 .result) (c .closed .result) (m .if3 .row) (c .closed .last .0) (apart-worked t w _) (c .closed .ensures .0) (c .closed .ensures .1 .0) (c .closed .ensures .1 .1)
 
