@@ -4,9 +4,9 @@ use mathlib.Core.List.{_++_}
 use native.Mathlib.Omega.{arith}
 use lib.ListN.{length, take, drop, length-set}
 use borrow.Author.Needs.{needs}
-use Rattle.saved.proofs.Writing.{copied-more}
-use Rattle.saved.proofs.copied.Statement.{statement}
-use Rattle.saved.proofs.copied.Tie as tie
+use Rattle.saved_writing.proofs.Writing.{copied-more}
+use Rattle.saved_writing.proofs.copied.Statement.{statement}
+use Rattle.saved_writing.proofs.copied.Tie as tie
 
 abbrev Inv-loop : tie.InvT-loop
 Inv-loop from at to₀ n i₀ to i = (i ≤ n) × (length to ≡ length to₀) × (to ≡ take i (drop at from) ++ drop i to₀)

@@ -8,7 +8,8 @@ use native.Mathlib.Omega.{arith}
 use lib.ListN.{length, take, drop, getD, set, length-append, length-drop, take-append-drop}
 use lib.Seq.{take-at, take-suc, drop-cons, drop-drop, drop-append-add, set-at, append-snoc, getD-drop, length-take-le}
 use Rattle.words.specs.Words.{le2, le4, with16, with32}
+use Rattle.saved.proofs.Laws.{words-size}
 use Rattle.saved.specs.Format.{words, rowPlaces, rowPairs, begunBytes, over}
 
 -- ---- one part more
 
@@ -38,11 +39,6 @@ pub words-append : (xs ys : List ℕ) → words (xs ++ ys) ≡ words xs ++ words
 unfolding words
 words-append [] ys = refl
 words-append (x ∷ xs) ys = ap (λ l. le4 x ++ l) (words-append xs ys)
-
-pub words-size : (xs : List ℕ) → length (words xs) ≡ 4 * length xs
-unfolding words
-words-size [] = refl
-words-size (x ∷ xs) = omega (arith, words-size xs)
 
 -- ---- rows
 

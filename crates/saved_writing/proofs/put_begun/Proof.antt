@@ -1,7 +1,7 @@
 use borrow.Author.Needs.{needs}
-use Rattle.saved.proofs.Writing.{begun-put}
-use Rattle.saved.proofs.put_begun.Statement.{statement}
-use Rattle.saved.proofs.put_begun.Tie as tie
+use Rattle.saved_writing.proofs.Writing.{begun-put}
+use Rattle.saved_writing.proofs.put_begun.Statement.{statement}
+use Rattle.saved_writing.proofs.put_begun.Tie as tie
 
 cast-put-word16 : tie.Need-cast-put-word16
 cast-put-word16 c = search needs

@@ -4,10 +4,10 @@ use mathlib.Core.List.{_++_}
 use native.Mathlib.Omega.{arith}
 use lib.ListN.{length, take, drop}
 use borrow.Author.Needs.{needs}
 use Rattle.saved.specs.Format.{words, rowPairs}
-use Rattle.saved.proofs.Writing.{pairsPut, pairs-none, pairs-more}
-use Rattle.saved.proofs.put_pairs.Statement.{statement}
-use Rattle.saved.proofs.put_pairs.Tie as tie
+use Rattle.saved_writing.proofs.Writing.{pairsPut, pairs-none, pairs-more}
+use Rattle.saved_writing.proofs.put_pairs.Statement.{statement}
+use Rattle.saved_writing.proofs.put_pairs.Tie as tie
 
 abbrev Inv-loop : tie.InvT-loop
 Inv-loop work₀ row c i₀ work i = (i ≤ c) × (length work ≡ length work₀) × (work ≡ pairsPut work₀ row c i)

@@ -1,19 +1,19 @@
 use Prim.Native.Nat.{ℕ, _+_, _*_, _-_, _≤_, _<_}
-use mathlib.Core.Path.{_≡_, refl}
+use mathlib.Core.Path.{_≡_}
 use native.Mathlib.Omega.{arith}
 use lib.ListN.{length, length-set}
 use borrow.Author.Needs.{needs}
 use Rattle.saved.specs.Format.{countIn}
 use Rattle.saved.proofs.Reading.{Held, row-opens, held-more}
 use Rattle.saved.proofs.Laws.{begun-means}
-use Rattle.saved.proofs.row_of.Statement.{statement}
-use Rattle.saved.proofs.row_of.Tie as tie
+use Rattle.saved.proofs.put_opens.Statement.{statement}
+use Rattle.saved.proofs.put_opens.Tie as tie
 
 abbrev Inv-loop : tie.InvT-loop
-Inv-loop b c row₀ i₀ row i = (i ≤ c) × (c ≤ 64) × (length b ≡ 8 + 12 * c) × (length row ≡ 192) × ((j : ℕ) → j < i → Held b row j)
+Inv-loop b row₀ c i₀ row i = (i ≤ c) × (c ≤ 64) × (length b ≡ 8 + 12 * c) × (length row ≡ 192) × ((j : ℕ) → j < i → Held b row j)
 
 abbrev μ-loop : tie.MeasureT-loop
-μ-loop b c row₀ i₀ row i = c - i
+μ-loop b row₀ c i₀ row i = c - i
 
 count-of-requires : tie.Need-count-of-requires Inv-loop μ-loop
 count-of-requires c κs =
@@ -23,7 +23,7 @@ count-of-requires c κs =
 loop-holds : tie.Need-loop-holds Inv-loop μ-loop
 loop-holds c =
     let w = begun-means (c .before .before .args .b .now) (c .before .before .pre .0) (c .before .before .pre .1) in
-    (omega arith, omega arith, omega arith, refl, λ j h. absurd (omega arith))
+    (omega arith, omega arith, omega arith, omega arith, λ j h. absurd (omega arith))
 
 mul-pair : tie.Need-mul-pair Inv-loop μ-loop
 mul-pair c = search needs
@@ -52,8 +52,8 @@ mul-row c = search needs
 mul-row-2 : tie.Need-mul-row-2 Inv-loop μ-loop
 mul-row-2 c = search needs
 
-array-write-row : tie.Need-array-write-row Inv-loop μ-loop
-array-write-row c = search needs
+element-write-row : tie.Need-element-write-row Inv-loop μ-loop
+element-write-row c = search needs
 
 word32-requires-2 : tie.Need-word32-requires-2 Inv-loop μ-loop
 word32-requires-2 c κs = search needs
@@ -67,8 +67,8 @@ add-row c = search needs
 mul-row-4 : tie.Need-mul-row-4 Inv-loop μ-loop
 mul-row-4 c = search needs
 
-array-write-row-2 : tie.Need-array-write-row-2 Inv-loop μ-loop
-array-write-row-2 c = search needs
+element-write-row-2 : tie.Need-element-write-row-2 Inv-loop μ-loop
+element-write-row-2 c = search needs
 
 add-word32-2 : tie.Need-add-word32-2 Inv-loop μ-loop
 add-word32-2 c = search needs
@@ -85,8 +85,8 @@ add-row-2 c = search needs
 mul-row-6 : tie.Need-mul-row-6 Inv-loop μ-loop
 mul-row-6 c = search needs
 
-array-write-row-3 : tie.Need-array-write-row-3 Inv-loop μ-loop
-array-write-row-3 c = search needs
+element-write-row-3 : tie.Need-element-write-row-3 Inv-loop μ-loop
+element-write-row-3 c = search needs
 
 add-i : tie.Need-add-i Inv-loop μ-loop
 add-i c = search needs
@@ -104,8 +104,8 @@ returns c =
     let b = c .before .before .before .before .args .b .now in
     row-opens b (c .before .loop .row) 0 (countIn b) (λ j h. c .before .loop .inv .4 j (omega arith))
 
-pub row-of-spec : {M : Type 1} → statement M
-row-of-spec =
+pub put-opens-spec : {M : Type 1} → statement M
+put-opens-spec =
     tie.close
     (tie.spec
     Inv-loop
@@ -121,18 +121,18 @@ row-of-spec =
     word32-requires
     mul-row
     mul-row-2
-    array-write-row
+    element-write-row
     word32-requires-2
     mul-row-3
     add-row
     mul-row-4
-    array-write-row-2
+    element-write-row-2
     add-word32-2
     word32-requires-3
     mul-row-5
     add-row-2
     mul-row-6
-    array-write-row-3
+    element-write-row-3
     add-i
     loop-less
     loop-again

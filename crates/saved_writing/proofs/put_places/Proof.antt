@@ -3,9 +3,9 @@ use mathlib.Core.Path.{_≡_, refl, ap, _∙_}
 use native.Mathlib.Omega.{arith}
 use lib.ListN.{length}
 use borrow.Author.Needs.{needs}
-use Rattle.saved.proofs.Writing.{placesPut, places-none, places-more}
-use Rattle.saved.proofs.put_places.Statement.{statement}
-use Rattle.saved.proofs.put_places.Tie as tie
+use Rattle.saved_writing.proofs.Writing.{placesPut, places-none, places-more}
+use Rattle.saved_writing.proofs.put_places.Statement.{statement}
+use Rattle.saved_writing.proofs.put_places.Tie as tie
 
 abbrev Inv-loop : tie.InvT-loop
 Inv-loop work₀ row c i₀ work i = (i ≤ c) × (length work ≡ length work₀) × (work ≡ placesPut work₀ row i)

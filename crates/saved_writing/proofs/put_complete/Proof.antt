@@ -4,10 +4,10 @@ use borrow.Author.Needs.{needs}
 use mir.Val.{boolByte}
 use Rattle.words.specs.Words.{le2, le4}
 use Rattle.figures.proofs.Marks.{as-byte}
 use Rattle.saved.specs.Format.{savedBytes, over}
-use Rattle.saved.proofs.Writing.{complete-put}
-use Rattle.saved.proofs.put_complete.Statement.{statement}
-use Rattle.saved.proofs.put_complete.Tie as tie
+use Rattle.saved_writing.proofs.Writing.{complete-put}
+use Rattle.saved_writing.proofs.put_complete.Statement.{statement}
+use Rattle.saved_writing.proofs.put_complete.Tie as tie
 
 put-word16-requires : tie.Need-put-word16-requires
 put-word16-requires c κs = search needs
