@@ -4,7 +4,6 @@ use mathlib.Core.Path.{_≡_, refl, sym, ap, ap₂, _∙_, subst}
 use mathlib.Core.List.{List, [], _∷_}
 use mathlib.Core.Bool.{Bool, true, false, cond, not, _&&_, true≢false, and-eq-true-iff}
 use native.Mathlib.Nat.{sub-zero, le-trans}
-use native.Mathlib.Numerals.{add-one}
 use native.Mathlib.Omega.{arith}
 use lib.Dec.{eqb, leb}
 use lib.ListN.{length, getD}
@@ -15,13 +14,13 @@ use Rattle.rounding.specs.declared.Direction.{Direction}
 use Rattle.rounding.specs.declared.Direction.the-variants.{Down, Up}
 use Rattle.reliability.specs.declared.Link.{Link}
 use Rattle.reliability.specs.declared.Figure.{Figure}
-use Rattle.reliability.specs.Rule.{Tree, ready, multiplied, fork, taken, bounded, side, times, more, stepped, mixed, unfinished, run, splits}
+use Rattle.reliability.specs.Rule.{Tree, ready, multiplied, fork, taken, bounded, times, more, mixed, unfinished, run, splits}
 use Rattle.reliability.proofs.Runs.{Ranged, range, steps}
 use Rattle.sittings.specs.declared.Carried.{Carried}
 use Rattle.sittings.specs.Sittings.{Open, running, known, opens, aside, resumed, traced}
 use Rattle.sittings.specs.Entries.{pair, entered, openAt, opensIn, entries, ownEntry, ownCount, Known, InRange}
 use Rattle.sittings.proofs.Sittings.{resumed-none, resumed-multiplied, more-zero}
-use Rattle.sittings.proofs.Asides.{Fresh, aside-done, taken-now, broken-none, own-count, own-written}
+use Rattle.sittings.proofs.Asides.{Fresh, taken-now, broken-none, own-count, own-written}
 use Rattle.sittings.proofs.Bounds.{depth, resumed-ranged, opens-few, aside-depth}
 use Rattle.engine.specs.Carrying.{Carries, Worked}
 

@@ -12,9 +12,9 @@ use borrow.Author.Tests.{ne-eqb}
 use Rattle.rounding.specs.Rounding.{S, factor}
 use Rattle.reliability.specs.declared.Link.{Link}
 use Rattle.reliability.specs.declared.Figure.{Figure}
-use Rattle.reliability.specs.declared.Step.the-variants.{OneNode, End, Series, Split}
+use Rattle.reliability.specs.declared.Step.the-variants.{End, Series, Split}
 use Rattle.reliability.specs.Networks.{Network as Graph, value}
-use Rattle.reliability.specs.Rule.{Tree, ready, multiplied, fork, tree, more, mixed, deleted, removed, joined, inSeries, contracted, bounded, times, run as runTree}
+use Rattle.reliability.specs.Rule.{Tree, ready, multiplied, fork, tree, more, mixed, deleted, removed, joined, inSeries, contracted, bounded, times}
 use Rattle.reliability.specs.Simple.{Plain}
 use Rattle.reliability.proofs.Runs.{Ranged}
 use Rattle.network.specs.declared.Network.{Network}
