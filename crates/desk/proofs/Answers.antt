@@ -10,7 +10,6 @@ use lib.IntN.{ℤ, pos, negsuc}
 use lib.Signed.{mag}
 use lib.ListN.{length, drop, length-drop}
 use borrow.Author.Tests.{lt-ltb, le-ltb, le-leb, lt-leb, leb-true, leb-false}
-use Rattle.words.proofs.Laws.{whole32}
 use Rattle.reliability.specs.declared.Figure.{Figure}
 use Rattle.reliability.specs.Networks.{Valid}
 use Rattle.plan.specs.Plans.{WellFormed, planOf}
@@ -21,8 +20,10 @@ use Rattle.refusals.specs.declared.CallVerdict.{CallVerdict}
 use Rattle.refusals.specs.declared.CallVerdict.the-variants.{Accepted, Refused}
 use Rattle.refusals.specs.Refusals.{callReturned}
 use Rattle.refusals.proofs.Calls.{call-number-range, zero-accepted}
-use Rattle.desk.specs.Outcomes.{twos, withFigure, Outcome, unless}
-use Rattle.desk.specs.Answers.{lowIn, highIn, stepsIn, finishedIn, signed, Holds, Marked, Full, Refusal}
+use Rattle.answers.specs.Answers.{withFigure, Holds}
+use Rattle.answers.proofs.Laws.{written}
+use Rattle.desk.specs.Outcomes.{twos, Outcome, unless}
+use Rattle.desk.specs.Answers.{signed, Marked, Full, Refusal}
 
 -- ---- accepted or refused
 
@@ -51,16 +52,6 @@ pub valid-of : (plan : List ℕ) → WellFormed plan → Valid (planOf plan)
 valid-of plan w = plan-valid plan (accepted-means plan .1 w)
 
 -- ---- an answer read back
-
-written : (f : Figure) (b : List ℕ) → (f .low < 2 ^ 32) × (f .high < 2 ^ 32) × (f .steps < 2 ^ 32) → Holds (withFigure f b) f
-unfolding lowIn highIn stepsIn finishedIn
-written f b h =
-    let later : ℕ → List ℕ = λ k. drop (4 * k) (withFigure f b) in
-    record { low = whole32 (f .low) (later 1) (h .0); high = whole32 (f .high) (later 2) (h .1); steps = whole32 (f .steps) (later 3) (h .2); finished = whole32 (cond (f .finished) 1 0) (later 4) (flag (f .finished)) }
-  where
-    flag : (t : Bool) → cond t 1 0 < 2 ^ 32
-    flag true = omega arith
-    flag false = omega arith
 
 -- a call that returned 0 left its figure's numbers in the buffer
 pub read-back : (f : Figure) (b : List ℕ) {o : Outcome} → Full o b (withFigure f b) ⊎ Refusal o b → o .returned ≡ 0

@@ -20,8 +20,9 @@ use Rattle.refusals.specs.declared.CallVerdict.{CallVerdict}
 use Rattle.refusals.specs.declared.CallVerdict.the-variants.{Accepted}
 use Rattle.refusals.specs.Refusals.{callReturned, figureVerdict}
 use Rattle.refusals.proofs.Calls.{figure-means}
-use Rattle.desk.specs.Outcomes.{withFigure, Outcome, checkOutcome, figureOutcome}
-use Rattle.desk.specs.Answers.{lowIn, highIn, stepsIn, finishedIn, Holds, LiesWithin, Marked, Full, Refusal}
+use Rattle.answers.specs.Answers.{withFigure, lowIn, highIn, stepsIn, finishedIn, Holds}
+use Rattle.desk.specs.Outcomes.{Outcome, checkOutcome, figureOutcome}
+use Rattle.desk.specs.Answers.{LiesWithin, Marked, Full, Refusal}
 use Rattle.desk.proofs.Answers.{full-or-refused, returned-of, zero-of, valid-of, read-back, marked, mark-true}
 
 -- demand 1: check accepts a plan that meets none of the causes 1 to 6, and no other

@@ -25,7 +25,8 @@ use Rattle.refusals.specs.declared.CallVerdict.the-variants.{Accepted}
 use Rattle.refusals.specs.Refusals.{callReturned, plannedSecond, figureVerdict, differenceVerdict}
 use Rattle.refusals.proofs.Calls.{figure-means, also-means, second-means}
 use Rattle.desk.specs.Outcomes.{twos, withDifference, Outcome, differenceOutcome}
-use Rattle.desk.specs.Answers.{lowIn, highIn, stepsIn, finishedIn, signed, HoldsSigned, LiesWithinSigned, Marked, Full, Refusal}
+use Rattle.answers.specs.Answers.{lowIn, highIn, stepsIn, finishedIn}
+use Rattle.desk.specs.Answers.{signed, HoldsSigned, LiesWithinSigned, Marked, Full, Refusal}
 use Rattle.desk.proofs.Answers.{full-or-refused, returned-of, zero-of, valid-of, read-back, signed-back, twos-range, marked, both-finished, mark-true}
 
 module _ (first second : List ℕ) (limit : ℕ) (b : List ℕ) where

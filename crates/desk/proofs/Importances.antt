@@ -20,8 +20,9 @@ use Rattle.refusals.specs.declared.CallVerdict.{CallVerdict}
 use Rattle.refusals.specs.declared.CallVerdict.the-variants.{Accepted}
 use Rattle.refusals.specs.Refusals.{callReturned, placed, figureVerdict, importanceVerdict}
 use Rattle.refusals.proofs.Calls.{figure-means, also-means, placed-means}
-use Rattle.desk.specs.Outcomes.{withFigure, Outcome, importanceOutcome}
-use Rattle.desk.specs.Answers.{lowIn, highIn, stepsIn, finishedIn, Holds, LiesWithin, Marked, Full, Refusal}
+use Rattle.answers.specs.Answers.{withFigure, lowIn, highIn, stepsIn, finishedIn, Holds}
+use Rattle.desk.specs.Outcomes.{Outcome, importanceOutcome}
+use Rattle.desk.specs.Answers.{LiesWithin, Marked, Full, Refusal}
 use Rattle.desk.proofs.Answers.{full-or-refused, returned-of, zero-of, valid-of, read-back, marked, both-finished, mark-true}
 
 module _ (plan : List ℕ) (place limit : ℕ) (b : List ℕ) where

@@ -8,37 +8,15 @@ use lib.Dec.{ltb}
 use lib.IntN.{ℤ, pos, _-ℤ_}
 use lib.ListN.{length, drop}
 use lib.Signed.{_≤ℤ_}
-use Rattle.words.specs.Words.{word32}
-use Rattle.reliability.specs.declared.Figure.{Figure}
 use Rattle.reliability.specs.declared.Difference.{Difference}
+use Rattle.answers.specs.Answers.{lowIn, highIn, stepsIn, finishedIn}
 use Rattle.desk.specs.Outcomes.{Outcome}
-
--- ---- the four numbers in a buffer
-
-unfoldable pub lowIn : List ℕ → ℕ
-lowIn b = word32 b 0
-
-unfoldable pub highIn : List ℕ → ℕ
-highIn b = word32 b 4
-
-unfoldable pub stepsIn : List ℕ → ℕ
-stepsIn b = word32 b 8
-
-unfoldable pub finishedIn : List ℕ → ℕ
-finishedIn b = word32 b 12
 
 -- a number of 32 bits read as signed: n stands for n, or for n - 2^32 where n is 2^31 or above
 unfoldable pub signed : ℕ → ℤ
 signed n = cond (ltb n 2147483648) (pos n) (pos n -ℤ pos 4294967296)
 
--- a buffer holds a figure's numbers
-pub record Holds (b : List ℕ) (f : Figure) : Type 0 where
-  pub low : lowIn b ≡ f .low
-  pub high : highIn b ≡ f .high
-  pub steps : stepsIn b ≡ f .steps
-  pub finished : finishedIn b ≡ cond (f .finished) 1 0
-
--- and a difference's, low and high in two's complement
+-- a buffer holds a difference's numbers, low and high in two's complement
 pub record HoldsSigned (b : List ℕ) (d : Difference) : Type 0 where
   pub low : signed (lowIn b) ≡ d .low
   pub high : signed (highIn b) ≡ d .high

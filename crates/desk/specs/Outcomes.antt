@@ -1,17 +1,15 @@
 -- The four calls: what each returns, and what it leaves in the answer buffer.
 use Prim.Native.Nat.{ℕ, _-_}
-use mathlib.Core.List.{List, _++_}
-use mathlib.Core.Bool.{Bool, cond}
+use mathlib.Core.List.{List}
 use lib.IntN.{ℤ, pos, negsuc}
-use lib.ListN.{length, drop}
-use Rattle.words.specs.Words.{le4}
-use Rattle.reliability.specs.declared.Figure.{Figure}
+use lib.ListN.{length}
 use Rattle.reliability.specs.declared.Difference.{Difference}
 use Rattle.reliability.specs.Rule.{figure}
 use Rattle.reliability.specs.Comparisons.{importance, difference}
 use Rattle.plan.specs.Plans.{verdict, returned, planOf}
 use Rattle.refusals.specs.declared.CallVerdict.{CallVerdict}
 use Rattle.refusals.specs.declared.CallVerdict.the-variants.{Accepted, Refused}
+use Rattle.answers.specs.Answers.{answered, withFigure}
 use Rattle.refusals.specs.Refusals.{callReturned, figureVerdict, importanceVerdict, differenceVerdict}
 
 -- two's complement in 32 bits
@@ -19,13 +17,7 @@ abbrev pub twos : ℤ → ℕ
 twos (pos n) = n
 twos (negsuc n) = 4294967295 - n
 
--- four numbers in the first sixteen bytes; later bytes keep their contents
-abbrev pub answered : ℕ → ℕ → ℕ → Bool → List ℕ → List ℕ
-answered low high steps finished b = le4 low ++ le4 high ++ le4 steps ++ le4 (cond finished 1 0) ++ drop 16 b
-
-abbrev pub withFigure : Figure → List ℕ → List ℕ
-withFigure f b = answered (f .low) (f .high) (f .steps) (f .finished) b
-
+-- a difference's numbers in the first sixteen bytes
 abbrev pub withDifference : Difference → List ℕ → List ℕ
 withDifference d b = answered (twos (d .low)) (twos (d .high)) (d .steps) (d .finished) b
 

@@ -1,20 +1,7 @@
 // The planning desk's four calls, for programs in C.
 use refusals::CallVerdict;
 ghost use mathlib.Core.Path.{_≡_};
-ghost use Prim.Native.Nat.{_≤_};
-ghost use lib.ListN.{length};
-ghost use Rattle.desk.specs.Outcomes.{twos, answered, checkOutcome, figureOutcome, importanceOutcome, differenceOutcome};
-
-// Four numbers in the first sixteen bytes.
-fn put_answer(b: &mut [u8], low: u32, high: u32, steps: u32, finished: bool)
-    requires { ⌜ 16 ≤ length (now b) ⌝ }
-    ensures { λ _. ⌜ now (b .exit) ≡ answered low high steps finished (now (b .entry)) ⌝ }
-{
-    words::put_word32(b, 0, low);
-    words::put_word32(b, 4, high);
-    words::put_word32(b, 8, steps);
-    words::put_word32(b, 12, finished as u32);
-}
+ghost use Rattle.desk.specs.Outcomes.{twos, checkOutcome, figureOutcome, importanceOutcome, differenceOutcome};
 
 // Two's complement in 32 bits.
 fn bits_of(x: i32) -> u32
@@ -44,7 +31,7 @@ pub extern "C" fn figure(plan: &[u8], limit: u64, answer: &mut [u8]) -> u64
         return refusals::call_returned(v);
     }
     let f = factoring::work(loading::network_of(plan), limit);
-    put_answer(answer, f.low, f.high, f.steps, f.finished);
+    answers::put_answer(answer, f.low, f.high, f.steps, f.finished);
     0
 }
 
@@ -58,7 +45,7 @@ pub extern "C" fn importance(plan: &[u8], place: u64, limit: u64, answer: &mut [
         return refusals::call_returned(w);
     }
     let gain = comparisons::importance(loading::network_of(plan), place as usize, limit);
-    put_answer(answer, gain.low, gain.high, gain.steps, gain.finished);
+    answers::put_answer(answer, gain.low, gain.high, gain.steps, gain.finished);
     0
 }
 
@@ -80,6 +67,6 @@ pub extern "C" fn difference(first: &[u8], second: &[u8], limit: u64, answer: &m
         loading::network_of(second),
         limit,
     );
-    put_answer(answer, bits_of(d.low), bits_of(d.high), d.steps, d.finished);
+    answers::put_answer(answer, bits_of(d.low), bits_of(d.high), d.steps, d.finished);
     0
 }

@@ -16,11 +16,12 @@ use Rattle.rounding.specs.declared.Direction.the-variants.{Down, Up}
 use Rattle.words.specs.Words.{word32, le2, le4}
 use Rattle.words.proofs.Laws.{whole32, behind32}
 use Rattle.reliability.specs.declared.Figure.{Figure}
+use Rattle.answers.specs.Answers.{answerBytes}
 use Rattle.sittings.specs.Sittings.{Open, running, known, begun, complete, nothing, most}
 use Rattle.sittings.specs.Entries.{entries, pair, entered, Known, InRange, InOrder}
 use Rattle.sittings.proofs.Asides.{entries-length}
 use Rattle.sittings.proofs.Rows.{running-again, known-again}
-use Rattle.saved.specs.Format.{countIn, stateIn, takenIn, placeIn, pairLow, pairHigh, opensFrom, opensOf, pairAllowed, pairsAllowed, begunWell, completeWell, wellFormed, words, places, pairs, answerBytes, savedBytes, rowPlaces, rowPairs, begunBytes}
+use Rattle.saved.specs.Format.{countIn, stateIn, takenIn, placeIn, pairLow, pairHigh, opensFrom, opensOf, pairAllowed, pairsAllowed, begunWell, completeWell, wellFormed, words, places, pairs, savedBytes, rowPlaces, rowPairs, begunBytes}
 use Rattle.saved.proofs.Reading.{allowed-ordered, begun-pairs, formed-begun}
 
 -- ---- what check 10 shows
@@ -103,6 +104,16 @@ begun-means b e z = ⊎-elim (λ w. begun-parts b w .1 steps) (λ w. let f = com
 
 pub complete-means : (b : List ℕ) → wellFormed b ≡ true → (stateIn b ≡ 0 → ⊥) → CompleteWork b
 complete-means b e h = ⊎-elim (λ w. absurd (h (begun-parts b w .0))) (λ w. complete-parts b w (parts b e .0)) (parts b e .1)
+
+-- eight bytes at least, and begun where it is not complete
+pub formed-size : (b : List ℕ) → wellFormed b ≡ true → 8 ≤ length b
+unfolding wellFormed
+formed-size b e =
+    let front = and-true (leb 8 (length b) && leb (takenIn b) most) (begunWell b || completeWell b) e .0 in
+    leb-true 8 (length b) (and-true (leb 8 (length b)) (leb (takenIn b) most) front .0)
+
+pub begun-else : (b : List ℕ) → wellFormed b ≡ true → (stateIn b ≡ 1 → ⊥) → stateIn b ≡ 0
+begun-else b e h = ⊎-elim (λ w. begun-parts b w .0) (λ w. absurd (h (complete-parts b w (parts b e .0) .state))) (parts b e .1)
 
 -- ---- sizes
 

@@ -1,13 +1,13 @@
 -- Saved work as bytes, little-endian: its sizes, then the open splits in two parallel arrays, or the answer.
 use Prim.Native.Nat.{ℕ, zero, suc, _+_, _*_}
 use mathlib.Core.List.{List, [], _∷_, _++_}
-use mathlib.Core.Bool.{Bool, true, cond, _&&_, _||_}
+use mathlib.Core.Bool.{Bool, true, _&&_, _||_}
 use lib.Dec.{eqb, leb}
 use lib.ListN.{length, drop, getD}
 use Rattle.words.specs.Words.{word16, word32, le2, le4}
 use Rattle.rounding.specs.Rounding.{S}
 use Rattle.rounding.specs.declared.Direction.the-variants.{Down, Up}
-use Rattle.reliability.specs.declared.Figure.{Figure}
+use Rattle.answers.specs.Answers.{answerBytes}
 use Rattle.sittings.specs.Sittings.{Open, running, known, Saved, begun, complete, most}
 use Rattle.sittings.specs.Entries.{entered}
 
@@ -77,9 +77,6 @@ unfoldable pub pairs : List Open → List ℕ
 pairs [] = []
 pairs (running i ∷ os) = 1 ∷ 0 ∷ pairs os
 pairs (known i k ∷ os) = k Down ∷ k Up ∷ pairs os
-
-abbrev pub answerBytes : Figure → List ℕ
-answerBytes f = le4 (f .low) ++ le4 (f .high) ++ le4 (f .steps) ++ le4 (cond (f .finished) 1 0)
 
 unfoldable pub savedBytes : Saved → List ℕ
 savedBytes (begun os n) = le2 (length os) ++ le2 0 ++ le4 n ++ words (places os) ++ words (pairs os)

@@ -14,7 +14,8 @@ use Rattle.refusals.specs.declared.CallVerdict.{CallVerdict}
 use Rattle.refusals.specs.declared.CallVerdict.the-variants.{Accepted, Refused}
 use Rattle.refusals.specs.Refusals.{callReturned, asked, planned, plannedSecond, also, figureVerdict, differenceVerdict}
 use Rattle.refusals.proofs.Calls.{asked-means, planned-means, second-means, also-means}
-use Rattle.desk.specs.Outcomes.{answered, twos, withDifference, differenceOutcome}
+use Rattle.answers.specs.Answers.{answered}
+use Rattle.desk.specs.Outcomes.{twos, withDifference, differenceOutcome}
 use Rattle.desk.proofs.Answers.{refused, answers}
 use borrow.Author.Needs.{needs}
 use Rattle.desk.proofs.difference.Statement.{statement}

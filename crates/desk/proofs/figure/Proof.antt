@@ -10,7 +10,8 @@ use Rattle.plan.specs.Plans.{verdict, planOf}
 use Rattle.refusals.specs.declared.CallVerdict.the-variants.{Accepted}
 use Rattle.refusals.specs.Refusals.{callReturned, asked, planned, figureVerdict}
 use Rattle.refusals.proofs.Calls.{asked-means, planned-means, also-means}
-use Rattle.desk.specs.Outcomes.{figureOutcome, withFigure}
+use Rattle.answers.specs.Answers.{withFigure}
+use Rattle.desk.specs.Outcomes.{figureOutcome}
 use Rattle.desk.proofs.Answers.{refused, answers}
 use borrow.Author.Needs.{needs}
 use Rattle.desk.proofs.figure.Statement.{statement}

@@ -11,7 +11,8 @@ use Rattle.loading.proofs.Stands.{stands-importance}
 use Rattle.refusals.specs.declared.CallVerdict.the-variants.{Accepted}
 use Rattle.refusals.specs.Refusals.{callReturned, asked, planned, placed, figureVerdict, importanceVerdict}
 use Rattle.refusals.proofs.Calls.{asked-means, planned-means, placed-means, also-means}
-use Rattle.desk.specs.Outcomes.{importanceOutcome, withFigure}
+use Rattle.answers.specs.Answers.{withFigure}
+use Rattle.desk.specs.Outcomes.{importanceOutcome}
 use Rattle.desk.proofs.Answers.{refused, answers}
 use borrow.Author.Needs.{needs}
 use Rattle.desk.proofs.importance.Statement.{statement}

@@ -6,8 +6,8 @@ use lib.Seq.{drop-drop}
 use Rattle.words.specs.Words.{le4, with32}
 use Rattle.figures.proofs.Marks.{as-byte}
 use borrow.Author.Needs.{needs}
-use Rattle.desk.proofs.put_answer.Statement.{statement}
-use Rattle.desk.proofs.put_answer.Tie as tie
+use Rattle.answers.proofs.put_answer.Statement.{statement}
+use Rattle.answers.proofs.put_answer.Tie as tie
 
 -- four words one after the other
 four-words : (w x y z : ℕ) (b b₁ b₂ b₃ b₄ : List ℕ) → b₁ ≡ with32 b 0 w → b₂ ≡ with32 b₁ 4 x → b₃ ≡ with32 b₂ 8 y → b₄ ≡ with32 b₃ 12 z

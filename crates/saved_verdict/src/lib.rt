@@ -1,0 +1,27 @@
+// The causes of saved work: 10, then 11.
+use plan::Verdict;
+use refusals::CallCause;
+use refusals::CallVerdict;
+ghost use mathlib.Core.Path.{_≡_};
+ghost use Rattle.reliability.specs.Rule.{tree};
+ghost use Rattle.plan.specs.Plans.{verdict, planOf};
+ghost use Rattle.saved_verdict.specs.SavedVerdict.{savedVerdict};
+
+// Of an accepted plan; complete work has no open split to trace.
+pub fn saved_verdict(plan: &[u8], saved: &[u8]) -> CallVerdict
+    requires { ⌜ verdict (now plan) ≡ Verdict.Accepted ⌝ }
+    ensures { λ r. ⌜ r ≡ savedVerdict (tree (planOf (now (plan .entry)))) (now (saved .entry)) ⌝ }
+{
+    if !saved::is_well_formed(saved) {
+        return CallVerdict::Refused(CallCause::SavedWork);
+    }
+    if saved::is_complete(saved) {
+        return CallVerdict::Accepted;
+    }
+    let row = saved::row_of(saved);
+    if tracing::traces(loading::network_of(plan), &row, saved::count_of(saved)) {
+        CallVerdict::Accepted
+    } else {
+        CallVerdict::Refused(CallCause::OpenSplit)
+    }
+}

@@ -1,0 +1,47 @@
+use mathlib.Core.Path.{sym, ap, _∙_}
+use Rattle.reliability.specs.Rule.{tree}
+use Rattle.plan.specs.Plans.{planOf}
+use Rattle.plan.proofs.Verdicts.{accepted-means}
+use Rattle.refusals.specs.declared.CallVerdict.{CallVerdict}
+use Rattle.refusals.specs.Refusals.{also}
+use Rattle.refusals.proofs.Calls.{sitting-means}
+use Rattle.saved_verdict.specs.SavedVerdict.{savedVerdict}
+use borrow.Author.Needs.{needs}
+use Rattle.sitting_desk.proofs.verdict_of.Statement.{statement}
+use Rattle.sitting_desk.proofs.verdict_of.Tie as tie
+
+sitting-verdict-requires : tie.Need-sitting-verdict-requires
+sitting-verdict-requires c κs = search needs
+
+enum-told : tie.Need-enum-told
+enum-told c = search needs
+
+saved-verdict-requires : tie.Need-saved-verdict-requires
+saved-verdict-requires c κs =
+    let a = c .before .before .before .before .before .args in
+    let e = sym (c .before .before .sitting-verdict .ensures) ∙ c .enum-told .given .1 in
+    accepted-means (a .plan .now) .1 (sitting-means (a .plan .now) (a .limit) (a .room) (a .space) .0 e .3)
+
+enum-known-c : tie.Need-enum-known-c
+enum-known-c c = search needs
+
+returns : tie.Need-returns
+returns c =
+    let a = c .before .before .before .before .before .before .args in
+    c .saved-verdict .ensures ∙ ap (λ (u : CallVerdict). also u (savedVerdict (tree (planOf (a .plan .now))) (a .saved .now))) (sym (sym (c .before .before .before .sitting-verdict .ensures) ∙ c .before .enum-told .given .1))
+
+returns-2 : tie.Need-returns-2
+returns-2 c =
+    let a = c .before .before .before .before .before .before .args in
+    ap (λ (u : CallVerdict). also u (savedVerdict (tree (planOf (a .plan .now))) (a .saved .now))) (sym (c .before .c .given .1) ∙ c .before .before .before .sitting-verdict .ensures)
+
+pub verdict-of-spec : {M : Type 1} → statement M
+verdict-of-spec =
+    tie.close
+    (tie.spec
+    sitting-verdict-requires
+    enum-told
+    saved-verdict-requires
+    enum-known-c
+    returns
+    returns-2)

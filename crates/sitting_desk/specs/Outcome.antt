@@ -1,0 +1,47 @@
+-- A sitting: what the call returns, and what it leaves in its two buffers.
+use Prim.Native.Nat.{ℕ}
+use mathlib.Core.List.{List, _++_}
+use mathlib.Core.Bool.{cond}
+use lib.Dec.{eqb}
+use lib.ListN.{length, take, drop}
+use Rattle.reliability.specs.Rule.{tree}
+use Rattle.plan.specs.Plans.{planOf}
+use Rattle.refusals.specs.declared.CallVerdict.{CallVerdict}
+use Rattle.refusals.specs.declared.CallVerdict.the-variants.{Accepted, Refused}
+use Rattle.refusals.specs.Refusals.{callReturned, also, sittingVerdict}
+use Rattle.answers.specs.Answers.{withFigure}
+use Rattle.sittings.specs.Sittings.{Sitting, begun, sitting}
+use Rattle.saved.specs.Format.{stateIn, takenIn, opensOf, savedBytes, over}
+use Rattle.saved_verdict.specs.SavedVerdict.{savedVerdict}
+
+-- what a sitting returns, and the two buffers at its end
+pub record SittingOutcome : Type 0 where
+  pub returned : ℕ
+  pub answer : List ℕ
+  pub work : List ℕ
+
+-- each sitting fills the answer and writes saved work; bytes behind it stay
+abbrev pub carriedOn : Sitting → List ℕ → List ℕ → SittingOutcome
+carriedOn s answer work = record { returned = 0; answer = withFigure (s .answer) answer; work = over (savedBytes (s .saved)) work }
+
+-- complete saved work is followed by the answer's 16 bytes: it is answered from them and written again
+abbrev pub givenAgain : List ℕ → List ℕ → List ℕ → SittingOutcome
+givenAgain saved answer work = record { returned = 0; answer = take 16 (drop 8 saved) ++ drop 16 answer; work = over saved work }
+
+-- accepted, or refused with all bytes as they were
+abbrev pub unlessRefused : CallVerdict → List ℕ → List ℕ → SittingOutcome → SittingOutcome
+unlessRefused Accepted answer work o = o
+unlessRefused (Refused c) answer work o = record { returned = callReturned (Refused c); answer = answer; work = work }
+
+-- 10 then 11 after the plan's own refusals
+abbrev pub verdictOf : List ℕ → ℕ → List ℕ → ℕ → ℕ → CallVerdict
+verdictOf plan limit saved room space = also (sittingVerdict plan limit room space) (savedVerdict (tree (planOf plan)) saved)
+
+-- the sitting of begun work: its open splits and the steps so far
+abbrev pub sittingOf : List ℕ → ℕ → List ℕ → Sitting
+sittingOf plan limit saved = sitting (tree (planOf plan)) (begun (opensOf saved) (takenIn saved)) limit
+
+unfoldable pub sittingOutcome : List ℕ → ℕ → List ℕ → List ℕ → List ℕ → SittingOutcome
+sittingOutcome plan limit saved answer work =
+    unlessRefused (verdictOf plan limit saved (length answer) (length work)) answer work
+    (cond (eqb (stateIn saved) 1) (givenAgain saved answer work) (carriedOn (sittingOf plan limit saved) answer work))
