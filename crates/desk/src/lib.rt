@@ -1,6 +1,7 @@
-// The planning desk's four calls, for programs in C.
+// The planning desk's five calls, for programs in C.
 use refusals::CallVerdict;
 ghost use mathlib.Core.Path.{_≡_};
+ghost use Rattle.sitting_desk.specs.Outcome.{sittingOutcome};
 ghost use Rattle.desk.specs.Outcomes.{twos, checkOutcome, figureOutcome, importanceOutcome, differenceOutcome};
 
 // Two's complement in 32 bits.
@@ -69,4 +70,19 @@ pub extern "C" fn difference(first: &[u8], second: &[u8], limit: u64, answer: &m
     );
     answers::put_answer(answer, bits_of(d.low), bits_of(d.high), d.steps, d.finished);
     0
+}
+
+#[no_mangle]
+pub extern "C" fn sitting(
+    plan: &[u8],
+    limit: u64,
+    saved: &[u8],
+    answer: &mut [u8],
+    work: &mut [u8],
+) -> u64
+    ensures { λ r. ⌜ r ≡ sittingOutcome (now (plan .entry)) limit (now (saved .entry)) (now (answer .entry)) (now (work .entry)) .returned ⌝ }
+    ensures { λ _. ⌜ now (answer .exit) ≡ sittingOutcome (now (plan .entry)) limit (now (saved .entry)) (now (answer .entry)) (now (work .entry)) .answer ⌝ }
+    ensures { λ _. ⌜ now (work .exit) ≡ sittingOutcome (now (plan .entry)) limit (now (saved .entry)) (now (answer .entry)) (now (work .entry)) .work ⌝ }
+{
+    sitting_desk::sitting(plan, limit, saved, answer, work)
 }

@@ -1,171 +1,26 @@
-// The engine: the written rule on a network by value, from work set aside or from nothing.
+// The figure of any network, from work set aside or from nothing: loops go first, then pairs, and what is left is simple.
 use network::Network;
 use reliability::Figure;
 use sittings::Carried;
-use steps::Next;
 ghost use mathlib.Core.Path.{_≡_};
-ghost use mathlib.Core.Bool.{cond};
-ghost use Prim.Native.Nat.{_+_, _^_, _≤_, _<_};
-ghost use lib.ListN.{length};
+ghost use Prim.Native.Nat.{_^_, _<_};
 ghost use Rattle.reliability.specs.Rule.{figure, tree};
-ghost use Rattle.network.specs.Places.{networkOf, linksOf, Invariant, assembled};
-ghost use Rattle.steps.specs.Simple.{Workable};
+ghost use Rattle.network.specs.Places.{networkOf, Invariant};
 ghost use Rattle.sittings.specs.Sittings.{resumed};
 ghost use Rattle.sittings.specs.Entries.{opensIn};
-ghost use Rattle.factoring.specs.Carrying.{Carries, Worked};
+ghost use Rattle.engine.specs.Carrying.{Carries, Worked};
 
-// A figure with nothing set aside.
-fn whole(figure: Figure) -> Carried
-    ensures { λ r. ⌜ (r .figure ≡ figure) × (r .aside ≡ 0) ⌝ }
-{
-    Carried { figure, aside: 0 }
-}
-
-// The open splits of the broken branch: those left where the sound branch is known, else none.
-fn of_broken(known: bool, left: usize) -> usize
-    ensures { λ r. ⌜ r ≡ cond known left 0 ⌝ }
-{
-    if known { left } else { 0 }
-}
-
-// The figure of a simple network, given by its parts, under a limit, and what it sets aside: what each step leaves is worked by
-// the same rule, with a link less. Of the row the open splits from place k on, as many as are left, are taken already.
-fn run<'r>(
-    alive: u64,
-    nodes: u32,
-    at: &'r [u64; 32],
-    a: &'r [u8; 64],
-    b: &'r [u8; 64],
-    low: &'r [u32; 64],
-    high: &'r [u32; 64],
-    limit: u64,
-    row: &mut [u32; 192],
-    k: usize,
-    left: usize,
-) -> Carried
-    requires { ⌜ Workable (assembled alive nodes (now at) (now a) (now b) (now low) (now high)) × (limit < 2 ^ 32) ⌝ }
-    requires { ⌜ (k + length (linksOf (assembled alive nodes (now at) (now a) (now b) (now low) (now high))) ≤ 64) × Carries (tree (networkOf (assembled alive nodes (now at) (now a) (now b) (now low) (now high)))) (now row) k left ⌝ }
-    ensures { λ r. ⌜ Worked (resumed (tree (networkOf (assembled alive nodes (now (at .entry)) (now (a .entry)) (now (b .entry)) (now (low .entry)) (now (high .entry))))) (opensIn (now (row .entry)) k left)) limit (now (row .entry)) k r (now (row .exit)) ⌝ }
-{
-    match steps::step(alive, nodes, at, a, b, low, high) {
-        Next::OneNode => whole(figures::settled(1_000_000_000)),
-        Next::End(v, i) => {
-            let e = network::link_at(a, b, low, high, i);
-            if search::at_most_one(bits::without(nodes as u64, v)) {
-                return whole(figures::times(e.low, e.high, figures::settled(1_000_000_000)));
-            }
-            let r = network::assembled(alive, nodes, at, a, b, low, high).end(v, i);
-            let f = run(
-                r.alive,
-                r.nodes,
-                &r.at,
-                &r.a,
-                &r.b,
-                &r.low,
-                &r.high,
-                limit,
-                row,
-                k,
-                left,
-            );
-            let figure = figures::times(e.low, e.high, f.figure);
-            Carried {
-                figure,
-                aside: f.aside,
-            }
-        }
-        Next::Series(v, i, j) => {
-            let e = network::link_at(a, b, low, high, i);
-            let h = network::link_at(a, b, low, high, j);
-            let r = network::assembled(alive, nodes, at, a, b, low, high)
-                .series(v, i, j)
-                .parallel();
-            let f = run(
-                r.alive,
-                r.nodes,
-                &r.at,
-                &r.a,
-                &r.b,
-                &r.low,
-                &r.high,
-                limit,
-                row,
-                k,
-                left,
-            );
-            let figure = figures::times_factor(e, h, f.figure);
-            Carried {
-                figure,
-                aside: f.aside,
-            }
-        }
-        Next::Split(i) => {
-            if sittings::stopped(left, limit) {
-                return whole(figures::unfinished());
-            }
-            let e = network::link_at(a, b, low, high, i);
-            let place = steps::place(alive, i);
-            let own = sittings::own_steps(left);
-            let limited = limit - (own as u64);
-            let inner = sittings::behind(left);
-            let known = sittings::is_known(row, k, left);
-            let sound = if known {
-                sittings::known_at(row, k)
-            } else {
-                let s = network::assembled(alive, nodes, at, a, b, low, high)
-                    .contracted(i)
-                    .parallel();
-                run(
-                    s.alive,
-                    s.nodes,
-                    &s.at,
-                    &s.a,
-                    &s.b,
-                    &s.low,
-                    &s.high,
-                    limited,
-                    row,
-                    k + 1,
-                    inner,
-                )
-            };
-            let others = bits::without(alive, i);
-            let mut rest = *at;
-            parts::take_out(&mut rest, e.a, i);
-            parts::take_out(&mut rest, e.b, i);
-            if 1 < pieces::count(nodes as u64, others, &rest, a, b) {
-                return sittings::closed(row, k, place, e, own, sound, whole(figures::settled(0)));
-            }
-            let remains = limited - (sound.figure.steps as u64);
-            let broken = run(
-                others,
-                nodes,
-                &rest,
-                a,
-                b,
-                low,
-                high,
-                remains,
-                row,
-                k + 1,
-                of_broken(known, inner),
-            );
-            sittings::closed(row, k, place, e, own, sound, broken)
-        }
-    }
-}
-
-// The figure of a network under a limit, and what it sets aside: loops go first, then pairs, and what is left is simple.
+// The figure of a network under a limit, and what it sets aside.
 pub fn carry(net: Network, limit: u64, row: &mut [u32; 192], left: usize) -> Carried
     requires { ⌜ Invariant net × (limit < 2 ^ 32) × Carries (tree (networkOf net)) (now row) 0 left ⌝ }
     ensures { λ r. ⌜ Worked (resumed (tree (networkOf net)) (opensIn (now (row .entry)) 0 left)) limit (now (row .entry)) 0 r (now (row .exit)) ⌝ }
 {
     let n = steps::without_loops(net);
     if 1 < steps::pieces(n) {
-        return whole(figures::settled(0));
+        return sittings::whole(figures::settled(0));
     }
     let r = n.parallel();
-    run(
+    engine::run(
         r.alive,
         r.nodes,
         &r.at,

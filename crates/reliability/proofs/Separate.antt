@@ -1,6 +1,6 @@
 -- A network in more than one piece: its figure is 0, without a split.
 use Prim.Native.Nat.{ℕ, zero, suc, _≤_, _<_}
-use mathlib.Core.Path.{_≡_, refl, sym, ap, _∙_}
+use mathlib.Core.Path.{_≡_, refl, ap, _∙_}
 use mathlib.Core.List.{map}
 use mathlib.Core.Bool.{true, false}
 use mathlib.Core.Option.{Option, some, none}

@@ -1,15 +1,13 @@
 -- The work by what the step that fits leaves, and what is known of its figure.
 use Prim.Native.Nat.{ℕ, zero, suc, _-_, _≤_, _<_}
 use mathlib.Core.Path.{_≡_, refl, sym, ap, ap₂, _∙_}
-use mathlib.Core.Bool.{true}
-use native.Mathlib.Nat.{not-suc-le-zero}
 use native.Mathlib.Omega.{arith}
 use lib.ListN.{length}
 use Rattle.rounding.specs.Rounding.{S}
 use Rattle.rounding.specs.declared.Direction.{Direction}
 use Rattle.reliability.specs.declared.Link.{Link}
 use Rattle.reliability.specs.Networks.{Network, Valid}
-use Rattle.reliability.specs.Rule.{Remainder, settled, rest, scaled, branches, chosen, next, leaves, stepAt, Tree, ready, multiplied, fork, grown, treeOf, tree, bounded, side, times, blend, unfinished, run, figure}
+use Rattle.reliability.specs.Rule.{Remainder, settled, rest, scaled, branches, chosen, next, leaves, stepAt, Tree, ready, multiplied, fork, grown, treeOf, tree, side, figure}
 use Rattle.reliability.proofs.Lawful.{Leaves, View, Sized, Lawful, Choice}
 use Rattle.reliability.proofs.Runs.{steps, range}
 use Rattle.reliability.proofs.Steps.{view, first-link}

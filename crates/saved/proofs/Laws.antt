@@ -23,7 +23,6 @@ use Rattle.sittings.proofs.Asides.{entries-length}
 use Rattle.sittings.proofs.Rows.{running-again, known-again}
 use Rattle.saved.specs.Format.{countIn, stateIn, takenIn, placeIn, pairLow, pairHigh, opensFrom, opensOf, pairAllowed, pairsAllowed, begunWell, completeWell, wellFormed, words, places, pairs, savedBytes, rowPlaces, rowPairs, begunBytes}
 use Rattle.saved.proofs.Reading.{allowed-ordered, begun-pairs, formed-begun}
-use Rattle.saved.proofs.Writing.{words-size}
 
 -- ---- what check 10 shows
 
@@ -117,6 +116,11 @@ pub begun-else : (b : List ℕ) → wellFormed b ≡ true → (stateIn b ≡ 1 �
 begun-else b e h = ⊎-elim (λ w. begun-parts b w .0) (λ w. absurd (h (complete-parts b w (parts b e .0) .state))) (parts b e .1)
 
 -- ---- sizes
+
+pub words-size : (xs : List ℕ) → length (words xs) ≡ 4 * length xs
+unfolding words
+words-size [] = refl
+words-size (x ∷ xs) = omega (arith, words-size xs)
 
 place-count : (os : List Open) → length (places os) ≡ length os
 unfolding places

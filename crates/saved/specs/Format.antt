@@ -1,7 +1,7 @@
 -- Saved work as bytes, little-endian: its sizes, then the open splits in two parallel arrays, or the answer.
 use Prim.Native.Nat.{ℕ, zero, suc, _+_, _*_}
 use mathlib.Core.List.{List, [], _∷_, _++_}
-use mathlib.Core.Bool.{Bool, true, false, _&&_, _||_}
+use mathlib.Core.Bool.{Bool, true, _&&_, _||_}
 use lib.Dec.{eqb, leb}
 use lib.ListN.{length, drop, getD}
 use Rattle.words.specs.Words.{word16, word32, le2, le4}

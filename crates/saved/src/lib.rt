@@ -1,14 +1,11 @@
-// Saved work in its bytes: read, tested and written.
-use reliability::Figure;
+// Saved work in its bytes: read and tested.
 ghost use mathlib.Core.Path.{_≡_};
 ghost use mathlib.Core.Bool.{true};
-ghost use mathlib.Core.List.{_++_};
 ghost use Prim.Native.Nat.{_+_, _*_, _≤_};
 ghost use lib.Dec.{eqb};
-ghost use lib.ListN.{length, take, drop};
-ghost use Rattle.sittings.specs.Sittings.{complete};
+ghost use lib.ListN.{length};
 ghost use Rattle.sittings.specs.Entries.{opensIn};
-ghost use Rattle.saved.specs.Format.{countIn, stateIn, takenIn, opensOf, pairAllowed, pairsAllowed, begunWell, completeWell, wellFormed, words, rowPlaces, rowPairs, savedBytes, begunBytes, over};
+ghost use Rattle.saved.specs.Format.{countIn, stateIn, takenIn, opensOf, pairAllowed, pairsAllowed, begunWell, completeWell, wellFormed};
 
 // ---- reading
 
@@ -117,12 +114,11 @@ pub fn is_well_formed(b: &[u8]) -> bool
 // ---- open splits into a row
 
 // Three numbers for each open split: its place and its pair.
-pub fn row_of(b: &[u8]) -> [u32; 192]
-    requires { ⌜ (wellFormed (now b) ≡ true) × (stateIn (now b) ≡ 0) ⌝ }
-    ensures { λ r. ⌜ opensIn r 0 (countIn (now (b .entry))) ≡ opensOf (now (b .entry)) ⌝ }
+fn put_opens(b: &[u8], row: &mut [u32; 192])
+    requires { ⌜ (wellFormed (now b) ≡ true) × (stateIn (now b) ≡ 0) × (length (now row) ≡ 192) ⌝ }
+    ensures { λ _. ⌜ opensIn (now (row .exit)) 0 (countIn (now (b .entry))) ≡ opensOf (now (b .entry)) ⌝ }
 {
     let c = count_of(b);
-    let mut row = [0u32; 192];
     let mut i = 0;
     while i < c {
         let pair = 8 + 4 * c + 8 * i;
@@ -131,70 +127,13 @@ pub fn row_of(b: &[u8]) -> [u32; 192]
         row[3 * i + 2] = words::word32(b, pair + 4);
         i += 1;
     }
+}
+
+pub fn row_of(b: &[u8]) -> [u32; 192]
+    requires { ⌜ (wellFormed (now b) ≡ true) × (stateIn (now b) ≡ 0) ⌝ }
+    ensures { λ r. ⌜ opensIn r 0 (countIn (now (b .entry))) ≡ opensOf (now (b .entry)) ⌝ }
+{
+    let mut row = [0u32; 192];
+    put_opens(b, &mut row);
     row
-}
-
-// ---- writing
-
-// The places of c open splits behind the sizes, and their pairs behind the places.
-fn put_places(work: &mut [u8], row: &[u32; 192], c: usize)
-    requires { ⌜ (c ≤ 64) × (776 ≤ length (now work)) × (length (now row) ≡ 192) ⌝ }
-    ensures { λ _. ⌜ now (work .exit) ≡ take 8 (now (work .entry)) ++ words (rowPlaces (now (row .entry)) 0 c) ++ drop (8 + 4 * c) (now (work .entry)) ⌝ }
-{
-    let mut i = 0;
-    while i < c {
-        words::put_word32(work, 8 + 4 * i, row[3 * i]);
-        i += 1;
-    }
-}
-
-fn put_pairs(work: &mut [u8], row: &[u32; 192], c: usize)
-    requires { ⌜ (c ≤ 64) × (776 ≤ length (now work)) × (length (now row) ≡ 192) ⌝ }
-    ensures { λ _. ⌜ now (work .exit) ≡ take (8 + 4 * c) (now (work .entry)) ++ words (rowPairs (now (row .entry)) 0 c) ++ drop (8 + 12 * c) (now (work .entry)) ⌝ }
-{
-    let mut i = 0;
-    while i < c {
-        let to = 8 + 4 * c + 8 * i;
-        words::put_word32(work, to, row[3 * i + 1]);
-        words::put_word32(work, to + 4, row[3 * i + 2]);
-        i += 1;
-    }
-}
-
-// c open splits and the steps so far.
-pub fn put_begun(work: &mut [u8], row: &[u32; 192], c: usize, steps: u32)
-    requires { ⌜ (c ≤ 64) × (776 ≤ length (now work)) × (length (now row) ≡ 192) ⌝ }
-    ensures { λ _. ⌜ now (work .exit) ≡ over (begunBytes (now (row .entry)) c steps) (now (work .entry)) ⌝ }
-{
-    words::put_word16(work, 0, c as u16);
-    words::put_word16(work, 2, 0);
-    words::put_word32(work, 4, steps);
-    put_places(work, row, c);
-    put_pairs(work, row, c);
-}
-
-// No open split, the steps and the answer.
-pub fn put_complete(work: &mut [u8], f: Figure)
-    requires { ⌜ 24 ≤ length (now work) ⌝ }
-    ensures { λ _. ⌜ now (work .exit) ≡ over (savedBytes (complete f)) (now (work .entry)) ⌝ }
-{
-    words::put_word16(work, 0, 0);
-    words::put_word16(work, 2, 1);
-    words::put_word32(work, 4, f.steps);
-    words::put_word32(work, 8, f.low);
-    words::put_word32(work, 12, f.high);
-    words::put_word32(work, 16, f.steps);
-    words::put_word32(work, 20, f.finished as u32);
-}
-
-// n bytes from a place on.
-pub fn copied(from: &[u8], at: usize, to: &mut [u8], n: usize)
-    requires { ⌜ (at + n ≤ length (now from)) × (n ≤ length (now to)) ⌝ }
-    ensures { λ _. ⌜ now (to .exit) ≡ take n (drop at (now (from .entry))) ++ drop n (now (to .entry)) ⌝ }
-{
-    let mut i = 0;
-    while i < n {
-        to[i] = from[at + i];
-        i += 1;
-    }
 }

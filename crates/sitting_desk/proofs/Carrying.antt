@@ -18,7 +18,7 @@ use Rattle.sittings.specs.Sittings.{Open, opens, aside, resumed, traced, begun,
 use Rattle.sittings.specs.Entries.{entries, opensIn, Known, InRange}
 use Rattle.sittings.proofs.Asides.{aside-open}
 use Rattle.sittings.proofs.Bounds.{depth, opens-few, tree-depth}
-use Rattle.factoring.specs.Carrying.{Carries, Worked}
+use Rattle.engine.specs.Carrying.{Carries, Worked}
 use Rattle.saved.specs.Format.{countIn, stateIn, takenIn, opensOf, wellFormed, savedBytes, begunBytes}
 use Rattle.saved.proofs.Laws.{formed-size, BegunWork, begun-means, begun-bytes}
 use Rattle.saved_verdict.proofs.Laws.{saved-means}

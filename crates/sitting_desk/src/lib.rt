@@ -67,9 +67,9 @@ fn set_aside(work: &mut [u8], row: &[u32; 192], r: Carried)
 {
     let f = r.figure;
     if f.finished {
-        saved::put_complete(work, f);
+        saved_writing::put_complete(work, f);
     } else {
-        saved::put_begun(work, row, r.aside, f.steps);
+        saved_writing::put_begun(work, row, r.aside, f.steps);
     }
 }
 
@@ -97,8 +97,8 @@ pub fn sitting(plan: &[u8], limit: u64, saved: &[u8], answer: &mut [u8], work: &
         return refusals::call_returned(v);
     }
     if saved::is_complete(saved) {
-        saved::copied(saved, 8, answer, 16);
-        saved::copied(saved, 0, work, 24);
+        saved_writing::copied(saved, 8, answer, 16);
+        saved_writing::copied(saved, 0, work, 24);
         return 0;
     }
     carry_on(plan, limit, saved, answer, work);

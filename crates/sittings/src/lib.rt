@@ -3,7 +3,7 @@ use reliability::Figure;
 use reliability::Link;
 ghost use mathlib.Core.Path.{_≡_};
 ghost use mathlib.Core.List.{[], _∷_};
-ghost use mathlib.Core.Bool.{true, not, _&&_};
+ghost use mathlib.Core.Bool.{true, cond, not, _&&_};
 ghost use Prim.Native.Nat.{_+_, _*_, _-_, _^_, _≤_, _<_};
 ghost use lib.Dec.{eqb, leb};
 ghost use lib.ListN.{length, getD};
@@ -16,6 +16,20 @@ ghost use Rattle.sittings.specs.Entries.{pair, ownEntry, ownCount};
 pub struct Carried {
     pub figure: Figure,
     pub aside: usize,
+}
+
+// A figure with nothing set aside.
+pub fn whole(figure: Figure) -> Carried
+    ensures { λ r. ⌜ (r .figure ≡ figure) × (r .aside ≡ 0) ⌝ }
+{
+    Carried { figure, aside: 0 }
+}
+
+// The open splits of the broken branch: those left where the sound branch is known, else none.
+pub fn of_broken(known: bool, left: usize) -> usize
+    ensures { λ r. ⌜ r ≡ cond known left 0 ⌝ }
+{
+    if known { left } else { 0 }
 }
 
 // A split is still to take where no open split is left, and then it takes a step.

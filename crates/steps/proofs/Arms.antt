@@ -1,6 +1,6 @@
 -- What is known of links and branches where a step is worked on a network by value.
 use Prim.Native.Nat.{ℕ, _≤_, _<_, zero-le, suc-le-suc}
-use mathlib.Core.Path.{_≡_, sym, ap, ap₂, _∙_, subst}
+use mathlib.Core.Path.{_≡_, sym, ap, _∙_, subst}
 use mathlib.Core.List.{List, [], _∷_, map}
 use mathlib.Core.Bool.{Bool, true, false}
 use native.Mathlib.Nat.{le-suc, le-trans}
@@ -15,13 +15,13 @@ use Rattle.bits.specs.Members.{members, howMany}
 use Rattle.reliability.specs.declared.Link.{Link}
 use Rattle.reliability.specs.declared.Step.{Step}
 use Rattle.reliability.specs.declared.Step.the-variants.{OneNode, End, Series, Split}
-use Rattle.reliability.specs.Networks.{Network as Graph, value, ends, connected, pieces, piecesOf}
+use Rattle.reliability.specs.Networks.{Network as Graph, Valid, value, ends, connected, pieces, piecesOf}
 use Rattle.reliability.specs.Rule.{isLoop, firstAt, lowest, endOf, seriesOf, chosen, when, _otherwise_, next, leaves, removed, deleted, joined, inSeries, contracted, ready, multiplied, fork, tree}
-use Rattle.reliability.specs.Simple.{Loopless, Plain, Simple, unpaired}
+use Rattle.reliability.specs.Simple.{Loopless, Plain, Simple, unpaired, withoutLoops}
 use Rattle.reliability.proofs.Validity.{proper-at, deleted-valid}
 use Rattle.reliability.proofs.Unrolled.{Below, tree-settled, tree-scaled, tree-branches, below-scaled, below-sound, below-broken}
 use Rattle.reliability.proofs.Steps.{split-chosen}
-use Rattle.reliability.proofs.Simple.{simple-next, connected-pieces-few, apart-tree, unpaired-simple, unpaired-tree, unpaired-fewer, end-simple, series-plain, contracted-plain, deleted-simple}
+use Rattle.reliability.proofs.Simple.{simple-next, connected-pieces-few, apart-tree, unpaired-simple, unpaired-tree, unpaired-fewer, unlooped-tree, unlooped-loopless, end-simple, series-plain, contracted-plain, deleted-simple}
 use Rattle.search.specs.declared.Found.the-variants.{At, Nothing}
 use Rattle.search.specs.Searches.{pick, placesIn, endsIn, found, loops}
 use Rattle.search.proofs.Sets.{has-place, mem-has}
@@ -91,6 +91,14 @@ module _ (n : Network) (sized : Sized n) where
 -- no loop, and in one piece at most
 pub plain-by : (n : Network) → Invariant n → Loopless (networkOf n) → piecesOf (networkOf n) ≤ 1 → Plain (networkOf n)
 plain-by n holds no-loop few = record { valid = holds .valid; loopless = no-loop; connected = connected-pieces-few (networkOf n) ∙ le-leb (piecesOf (networkOf n)) 1 few }
+
+-- r is a network without its loops: it is worked alike, and in at most one piece it is plain
+module _ (g : Graph) (r : Network) (is : networkOf r ≡ withoutLoops g) where
+  pub unlooped-same : Valid g → tree g ≡ tree (networkOf r)
+  unlooped-same valid = unlooped-tree g valid ∙ ap tree (sym is)
+
+  pub unlooped-plain : Invariant r → piecesOf (networkOf r) ≤ 1 → Plain (networkOf r)
+  unlooped-plain holds few = plain-by r holds (subst Loopless (sym is) (unlooped-loopless g)) few
 
 pub pieces-apart : (n : Network) → Invariant n → 1 < piecesOf (networkOf n) → tree (networkOf n) ≡ ready (λ d. 0)
 pieces-apart n holds many = apart-tree (networkOf n) (holds .valid) (connected-pieces-few (networkOf n) ∙ lt-leb (piecesOf (networkOf n)) 1 many)

@@ -3,7 +3,7 @@ use Prim.Native.Nat.{ℕ, zero, suc, _+_, _-_, _*_, _≤_}
 use mathlib.Core.Path.{_≡_, refl, sym, ap, ap₂, _∙_, subst}
 use mathlib.Core.List.{List, [], _∷_}
 use mathlib.Core.Bool.{Bool, true, false, not, _&&_}
-use mathlib.Core.Option.{Option, some, none, Option·map}
+use mathlib.Core.Option.{none}
 use native.Mathlib.Numerals.{add-one}
 use native.Mathlib.Omega.{arith}
 use lib.Dec.{eqb, leb}
@@ -11,15 +11,14 @@ use lib.ListN.{getD}
 use borrow.Author.Tests.{eq-eqb, ne-eqb, le-leb}
 use Rattle.rounding.specs.declared.Direction.{Direction}
 use Rattle.reliability.specs.declared.Link.{Link}
-use Rattle.reliability.specs.Networks.{Network as Graph, piecesOf}
-use Rattle.reliability.specs.Rule.{isLoop, firstAt, deleted, Tree, ready, multiplied, fork}
-use Rattle.reliability.specs.Simple.{Loopless, Plain, Simple, unlooped, withoutLoops}
+use Rattle.reliability.specs.Networks.{piecesOf}
+use Rattle.reliability.specs.Rule.{deleted, Tree, ready, multiplied, fork}
+use Rattle.reliability.specs.Simple.{Simple}
 use Rattle.reliability.proofs.Lists.{by-eqb}
 use Rattle.reliability.proofs.Simple.{connected-pieces-few, deleted-simple}
 use Rattle.network.specs.declared.Network.{Network}
 use Rattle.network.specs.Places.{networkOf, indexOf, Invariant, Sized}
 use Rattle.steps.specs.Simple.{Workable}
-use Rattle.steps.proofs.Arms.{plain-by}
 use Rattle.sittings.specs.Sittings.{Open, running, known, traced}
 use Rattle.sittings.specs.Entries.{pair, entered, opensIn}
 
@@ -85,21 +84,7 @@ one-left left h = by-eqb (λ b. b ≡ eqb (left - 1) 0) left 1 (λ e. sym (eq-eq
 
 -- ---- networks
 
-unlooped-none : (es : List Link) → firstAt isLoop (unlooped es) ≡ none
-unfolding firstAt unlooped
-unlooped-none [] = refl
-unlooped-none (e ∷ es) = go (isLoop e) refl (unlooped-none es)
-  where
-    go : (t : Bool) → isLoop e ≡ t → firstAt isLoop (unlooped es) ≡ none → firstAt isLoop (elim t [ true ↦ unlooped es | false ↦ e ∷ unlooped es ]) ≡ none
-    go true q h = h
-    go false q h = ap₂ (λ (t : Bool) (i : Option ℕ). elim t as (λ x. Option ℕ) [ true ↦ some zero | false ↦ Option·map suc i ]) q h
-
--- r is a network without its loops, in one piece at most
-pub unlooped-plain : (g : Graph) (r : Network) → networkOf r ≡ withoutLoops g → Invariant r → piecesOf (networkOf r) ≤ 1 → Plain (networkOf r)
-unlooped-plain g r is holds few = plain-by r holds (subst Loopless (sym is) (unlooped-none (g .links))) few
-
 -- r is a simple network without a link, in one piece at most
-
 pub deleted-work : (n r : Network) → Workable n → (i : ℕ) → networkOf r ≡ deleted (indexOf n i) (networkOf n) → Sized r → Invariant r → piecesOf (networkOf r) ≤ 1 → Workable r
 deleted-work n r work i is sized holds few = record {
   sized = sized;

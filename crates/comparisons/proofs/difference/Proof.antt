@@ -1,10 +1,26 @@
-use mathlib.Core.Path.{ap₂, _∙_}
+use Prim.Native.Nat.{ℕ, _≤_}
+use mathlib.Core.Path.{_≡_, sym, ap₂, _∙_, subst}
 use native.Mathlib.Omega.{arith}
 use Rattle.reliability.specs.Comparisons.{minus}
-use Rattle.factoring.proofs.Arms.{figure-within, steps-within}
+use Rattle.rounding.specs.Rounding.{S}
+use Rattle.rounding.specs.declared.Direction.the-variants.{Down, Up}
+use Rattle.reliability.specs.declared.Figure.{Figure}
+use Rattle.reliability.specs.Rule.{figure}
+use Rattle.reliability.proofs.Unrolled.{figure-range, figure-steps}
+use Rattle.network.specs.declared.Network.{Network}
+use Rattle.network.specs.Places.{networkOf, Invariant}
 use borrow.Author.Needs.{needs}
 use Rattle.comparisons.proofs.difference.Statement.{statement}
 use Rattle.comparisons.proofs.difference.Tie as tie
+
+-- what is known of a figure
+module _ (n : Network) (holds : Invariant n) (limit : ℕ) (f : Figure) (is : f ≡ figure (networkOf n) limit) where
+  figure-within : (f .low ≤ S) × (f .high ≤ S)
+  figure-within =
+      subst (λ (k : Figure). (k .low ≤ S) × (k .high ≤ S)) (sym is) (figure-range Down (networkOf n) limit (holds .valid), figure-range Up (networkOf n) limit (holds .valid))
+
+  steps-within : f .steps ≤ limit
+  steps-within = subst (λ (k : Figure). k .steps ≤ limit) (sym is) (figure-steps (networkOf n) limit (holds .valid))
 
 work-requires : tie.Need-work-requires
 work-requires c κs = search needs

@@ -1,24 +1,15 @@
-use Prim.Native.Nat.{_≤_}
-use mathlib.Core.Path.{_≡_, refl, sym, ap, _∙_, subst}
+use mathlib.Core.Path.{refl, sym, _∙_, subst}
 use native.Mathlib.Omega.{arith}
-use Rattle.reliability.specs.Networks.{Valid, piecesOf}
-use Rattle.reliability.specs.Rule.{Tree, tree}
-use Rattle.reliability.specs.Simple.{Loopless, Plain, withoutLoops}
-use Rattle.reliability.proofs.Simple.{unlooped-tree, unlooped-loopless}
-use Rattle.network.specs.declared.Network.{Network}
-use Rattle.network.specs.Places.{networkOf, Invariant}
-use Rattle.steps.proofs.Arms.{sized-of, links-few, plain-by, pieces-apart, unpaired-work, unpaired-same}
+use Rattle.reliability.specs.Rule.{Tree}
+use Rattle.network.specs.Places.{networkOf}
+use Rattle.steps.proofs.Arms.{sized-of, links-few, unlooped-same, unlooped-plain, pieces-apart, unpaired-work, unpaired-same}
 use Rattle.sittings.specs.Sittings.{resumed}
 use Rattle.sittings.specs.Entries.{opensIn}
-use Rattle.factoring.specs.Carrying.{Carries, Worked}
-use Rattle.factoring.proofs.Splits.{ready-worked}
+use Rattle.engine.specs.Carrying.{Carries, Worked}
+use Rattle.engine.proofs.Splits.{ready-worked}
 use borrow.Author.Needs.{needs}
 use Rattle.factoring.proofs.carry.Statement.{statement}
 use Rattle.factoring.proofs.carry.Tie as tie
-
--- a network and its network without loops are worked alike
-loops-off : (net n : Network) → Valid (networkOf net) → networkOf n ≡ withoutLoops (networkOf net) → tree (networkOf net) ≡ tree (networkOf n)
-loops-off net n valid e = unlooped-tree (networkOf net) valid ∙ ap tree (sym e)
 
 without-loops-requires : tie.Need-without-loops-requires
 without-loops-requires c κs = search needs
@@ -38,16 +29,12 @@ returns c =
     let a = w .before .args in
     let n = w .without-loops .result in
     let apart = pieces-apart n (w .without-loops .ensures .1) (omega (arith, c .before .before .before .pieces .ensures, c .before .before .if1 .taken)) in
-    ready-worked (loops-off (a .net) n (w .before .pre .0 .valid) (w .without-loops .ensures .0) ∙ apart) _ (a .limit) (a .row .now) 0 (c .whole .result) (c .whole .ensures .0 ∙ c .before .settled .ensures) (c .whole .ensures .1)
-
--- the network without loops, in one piece
-plainly : (net n : Network) → Invariant n → networkOf n ≡ withoutLoops (networkOf net) → piecesOf (networkOf n) ≤ 1 → Plain (networkOf n)
-plainly net n holds e few = plain-by n holds (subst Loopless (sym e) (unlooped-loopless (networkOf net))) few
+    ready-worked (unlooped-same (networkOf (a .net)) n (w .without-loops .ensures .0) (w .before .pre .0 .valid) ∙ apart) _ (a .limit) (a .row .now) 0 (c .whole .result) (c .whole .ensures .0 ∙ c .before .settled .ensures) (c .whole .ensures .1)
 
 parallel-requires : tie.Need-parallel-requires
 parallel-requires c κs =
     let w = c .before .before in
-    (w .without-loops .ensures .1, plainly (w .before .args .net) (w .without-loops .result) (w .without-loops .ensures .1) (w .without-loops .ensures .0) (omega (arith, c .before .pieces .ensures, c .if1 .left)))
+    (w .without-loops .ensures .1, unlooped-plain (networkOf (w .before .args .net)) (w .without-loops .result) (w .without-loops .ensures .0) (w .without-loops .ensures .1) (omega (arith, c .before .pieces .ensures, c .if1 .left)))
 
 run-requires : tie.Need-run-requires
 run-requires c κs =
@@ -57,9 +44,9 @@ run-requires c κs =
     let w = e .before .before in
     let a = w .before .args in
     let n = w .without-loops .result in
-    let plain = plainly (a .net) n (w .without-loops .ensures .1) (w .without-loops .ensures .0) (omega (arith, e .before .pieces .ensures, e .if1 .left)) in
+    let plain = unlooped-plain (networkOf (a .net)) n (w .without-loops .ensures .0) (w .without-loops .ensures .1) (omega (arith, e .before .pieces .ensures, e .if1 .left)) in
     let sized = sized-of (q .lifetimes) (q .result) (q .ok) in
-    let same = loops-off (a .net) n (w .before .pre .0 .valid) (w .without-loops .ensures .0) ∙ unpaired-same plain n (q .result) refl (q .ensures .0) in (
+    let same = unlooped-same (networkOf (a .net)) n (w .without-loops .ensures .0) (w .before .pre .0 .valid) ∙ unpaired-same plain n (q .result) refl (q .ensures .0) in (
       (unpaired-work plain n (q .result) refl (q .ensures .0) sized (q .ensures .1), w .before .pre .1),
       (omega (arith, links-few (q .result) sized), subst (λ (u : Tree). Carries u (a .row .now) 0 (a .left)) same (w .before .pre .2)),
     )
@@ -72,8 +59,8 @@ returns-2 c =
     let w = e .before .before in
     let a = w .before .args in
     let n = w .without-loops .result in
-    let plain = plainly (a .net) n (w .without-loops .ensures .1) (w .without-loops .ensures .0) (omega (arith, e .before .pieces .ensures, e .if1 .left)) in
-    let same = loops-off (a .net) n (w .before .pre .0 .valid) (w .without-loops .ensures .0) ∙ unpaired-same plain n (q .result) refl (q .ensures .0) in
+    let plain = unlooped-plain (networkOf (a .net)) n (w .without-loops .ensures .0) (w .without-loops .ensures .1) (omega (arith, e .before .pieces .ensures, e .if1 .left)) in
+    let same = unlooped-same (networkOf (a .net)) n (w .without-loops .ensures .0) (w .before .pre .0 .valid) ∙ unpaired-same plain n (q .result) refl (q .ensures .0) in
     subst (λ (u : Tree). Worked (resumed u (opensIn (a .row .now) 0 (a .left))) (a .limit) (a .row .now) 0 (c .run .result) (c .run .last .1 .1 .1 .1 .1 .1 .1 .1 .0)) (sym same) (c .run .ensures)
 
 pub carry-spec : {M : Type 1} → statement M

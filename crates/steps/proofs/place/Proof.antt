@@ -1,5 +1,5 @@
 use Prim.Native.Nat.{_-_}
-use mathlib.Core.Path.{ap, ap₂, _∙_}
+use mathlib.Core.Path.{ap, _∙_}
 use Rattle.bits.specs.Members.{members, howMany, both}
 use Rattle.steps.proofs.Places.{rank-count}
 use borrow.Author.Needs.{needs}

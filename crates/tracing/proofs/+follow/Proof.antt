@@ -5,8 +5,8 @@ use mathlib.Core.Bool.{Bool, true, false}
 use native.Mathlib.Omega.{arith}
 use lib.ListN.{length}
 use borrow.Author.Tests.{ne-eqb}
-use Rattle.reliability.specs.declared.Step.the-variants.{End, Series, Split}
 use Rattle.reliability.specs.Networks.{Network as Graph}
+use Rattle.reliability.specs.declared.Step.the-variants.{End, Series, Split}
 use Rattle.reliability.specs.Rule.{deleted, removed, joined, inSeries, contracted, tree, Tree}
 use Rattle.reliability.specs.Simple.{Plain}
 use Rattle.network.specs.declared.Network.{Network}

@@ -1,12 +1,11 @@
 use mathlib.Core.Path.{refl, sym, ap, _∙_}
 use native.Mathlib.Omega.{arith}
-use Rattle.reliability.specs.Rule.{tree, Tree}
-use Rattle.reliability.proofs.Simple.{unlooped-tree}
+use Rattle.reliability.specs.Rule.{Tree}
 use Rattle.network.specs.Places.{networkOf}
-use Rattle.steps.proofs.Arms.{sized-of, pieces-apart, unpaired-work, unpaired-same}
+use Rattle.steps.proofs.Arms.{sized-of, unlooped-same, unlooped-plain, pieces-apart, unpaired-work, unpaired-same}
 use Rattle.sittings.specs.Sittings.{traced}
 use Rattle.sittings.specs.Entries.{opensIn}
-use Rattle.tracing.proofs.Laws.{traced-ready, unlooped-plain}
+use Rattle.tracing.proofs.Laws.{traced-ready}
 use borrow.Author.Needs.{needs}
 use Rattle.tracing.proofs.traces.Statement.{statement}
 use Rattle.tracing.proofs.traces.Tie as tie
@@ -22,7 +21,7 @@ returns c =
     let w = c .before .before in
     let s = w .before in
     let r = w .without-loops in
-    let same = unlooped-tree (networkOf (s .args .net)) (s .pre .0 .valid) ∙ ap tree (sym (r .ensures .0))
+    let same = unlooped-same (networkOf (s .args .net)) (r .result) (r .ensures .0) (s .pre .0 .valid)
     ∙ pieces-apart (r .result) (r .ensures .1) (omega (arith, c .before .pieces .ensures, c .if1 .taken)) in
     traced-ready (s .args .row .now) 0 _ (s .args .left) ∙ ap (λ (u : Tree). traced u (opensIn (s .args .row .now) 0 (s .args .left))) (sym same)
 
@@ -47,7 +46,7 @@ returns-2 c =
     let r = e .before .before .without-loops in
     let s = e .before .before .before in
     let plain = unlooped-plain _ (r .result) (r .ensures .0) (r .ensures .1) (omega (arith, e .before .pieces .ensures, e .if1 .left)) in
-    let same = unlooped-tree (networkOf (s .args .net)) (s .pre .0 .valid) ∙ ap tree (sym (r .ensures .0)) ∙ unpaired-same plain (r .result) (q .result) refl (q .ensures .0) in
+    let same = unlooped-same (networkOf (s .args .net)) (r .result) (r .ensures .0) (s .pre .0 .valid) ∙ unpaired-same plain (r .result) (q .result) refl (q .ensures .0) in
     c .follow .ensures ∙ ap (λ (u : Tree). traced u (opensIn (s .args .row .now) 0 (s .args .left))) (sym same)
 
 pub traces-spec : {M : Type 1} → statement M

@@ -1,0 +1,141 @@
+// The engine: the written rule on a simple network by value, from work set aside or from nothing.
+use network::Network;
+use sittings::Carried;
+use steps::Next;
+ghost use Prim.Native.Nat.{_+_, _^_, _≤_, _<_};
+ghost use lib.ListN.{length};
+ghost use Rattle.reliability.specs.Rule.{tree};
+ghost use Rattle.network.specs.Places.{networkOf, linksOf, assembled};
+ghost use Rattle.steps.specs.Simple.{Workable};
+ghost use Rattle.sittings.specs.Sittings.{resumed};
+ghost use Rattle.sittings.specs.Entries.{opensIn};
+ghost use Rattle.engine.specs.Carrying.{Carries, Worked};
+
+// The figure of a simple network, given by its parts, under a limit, and what it sets aside: what each step leaves is worked by
+// the same rule, with a link less. Of the row the open splits from place k on, as many as are left, are taken already.
+pub fn run<'r>(
+    alive: u64,
+    nodes: u32,
+    at: &'r [u64; 32],
+    a: &'r [u8; 64],
+    b: &'r [u8; 64],
+    low: &'r [u32; 64],
+    high: &'r [u32; 64],
+    limit: u64,
+    row: &mut [u32; 192],
+    k: usize,
+    left: usize,
+) -> Carried
+    requires { ⌜ Workable (assembled alive nodes (now at) (now a) (now b) (now low) (now high)) × (limit < 2 ^ 32) ⌝ }
+    requires { ⌜ (k + length (linksOf (assembled alive nodes (now at) (now a) (now b) (now low) (now high))) ≤ 64) × Carries (tree (networkOf (assembled alive nodes (now at) (now a) (now b) (now low) (now high)))) (now row) k left ⌝ }
+    ensures { λ r. ⌜ Worked (resumed (tree (networkOf (assembled alive nodes (now (at .entry)) (now (a .entry)) (now (b .entry)) (now (low .entry)) (now (high .entry))))) (opensIn (now (row .entry)) k left)) limit (now (row .entry)) k r (now (row .exit)) ⌝ }
+{
+    match steps::step(alive, nodes, at, a, b, low, high) {
+        Next::OneNode => sittings::whole(figures::settled(1_000_000_000)),
+        Next::End(v, i) => {
+            let e = network::link_at(a, b, low, high, i);
+            if search::at_most_one(bits::without(nodes as u64, v)) {
+                let one = figures::settled(1_000_000_000);
+                return sittings::whole(figures::times(e.low, e.high, one));
+            }
+            let r = network::assembled(alive, nodes, at, a, b, low, high).end(v, i);
+            let f = run(
+                r.alive,
+                r.nodes,
+                &r.at,
+                &r.a,
+                &r.b,
+                &r.low,
+                &r.high,
+                limit,
+                row,
+                k,
+                left,
+            );
+            let figure = figures::times(e.low, e.high, f.figure);
+            Carried {
+                figure,
+                aside: f.aside,
+            }
+        }
+        Next::Series(v, i, j) => {
+            let e = network::link_at(a, b, low, high, i);
+            let h = network::link_at(a, b, low, high, j);
+            let r = network::assembled(alive, nodes, at, a, b, low, high)
+                .series(v, i, j)
+                .parallel();
+            let f = run(
+                r.alive,
+                r.nodes,
+                &r.at,
+                &r.a,
+                &r.b,
+                &r.low,
+                &r.high,
+                limit,
+                row,
+                k,
+                left,
+            );
+            let figure = figures::times_factor(e, h, f.figure);
+            Carried {
+                figure,
+                aside: f.aside,
+            }
+        }
+        Next::Split(i) => {
+            if sittings::stopped(left, limit) {
+                return sittings::whole(figures::unfinished());
+            }
+            let e = network::link_at(a, b, low, high, i);
+            let place = steps::place(alive, i);
+            let own = sittings::own_steps(left);
+            let limited = limit - (own as u64);
+            let inner = sittings::behind(left);
+            let known = sittings::is_known(row, k, left);
+            let sound = if known {
+                sittings::known_at(row, k)
+            } else {
+                let s = network::assembled(alive, nodes, at, a, b, low, high)
+                    .contracted(i)
+                    .parallel();
+                run(
+                    s.alive,
+                    s.nodes,
+                    &s.at,
+                    &s.a,
+                    &s.b,
+                    &s.low,
+                    &s.high,
+                    limited,
+                    row,
+                    k + 1,
+                    inner,
+                )
+            };
+            let others = bits::without(alive, i);
+            let mut rest = *at;
+            parts::take_out(&mut rest, e.a, i);
+            parts::take_out(&mut rest, e.b, i);
+            if 1 < pieces::count(nodes as u64, others, &rest, a, b) {
+                let none = sittings::whole(figures::settled(0));
+                return sittings::closed(row, k, place, e, own, sound, none);
+            }
+            let remains = limited - (sound.figure.steps as u64);
+            let broken = run(
+                others,
+                nodes,
+                &rest,
+                a,
+                b,
+                low,
+                high,
+                remains,
+                row,
+                k + 1,
+                sittings::of_broken(known, inner),
+            );
+            sittings::closed(row, k, place, e, own, sound, broken)
+        }
+    }
+}
