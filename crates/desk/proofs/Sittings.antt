@@ -16,9 +16,9 @@ use Rattle.sitting_desk.specs.Outcome.{SittingOutcome}
 use Rattle.sitting_desk.specs.Chains.{Lent, Allowed, AllAllowed, sat, handedOn, limits}
 use Rattle.sitting_desk.proofs.Demands as sittings
 use Rattle.desk.specs.Outcomes.{figureOutcome}
-use Rattle.desk.specs.Answers.{LiesWithin, Marked}
+use Rattle.desk.specs.Answers.{Marked}
 use Rattle.desk.proofs.Answers.{answers}
-use Rattle.desk.proofs.Demands.{figure-zero, figure-accepted, figure-encloses, figure-range, figure-steps, figure-marked, figure-width, figure-nesting}
+use Rattle.desk.proofs.Demands.{figure-zero, figure-accepted, figure-encloses, figure-steps, figure-marked, figure-width}
 
 module _ (plan : List ℕ) (well : WellFormed plan) where
   -- the figure under an accepted limit

@@ -6,12 +6,10 @@ use mathlib.Core.Logic.{_↔_}
 use mathlib.Core.Bool.{Bool, true, false, cond}
 use native.Mathlib.Omega.{arith}
 use Rattle.reliability.specs.Rule.{Tree}
-use Rattle.refusals.specs.declared.CallCause.{CallCause}
 use Rattle.refusals.specs.declared.CallCause.the-variants.{SavedWork, OpenSplit}
-use Rattle.refusals.specs.declared.CallVerdict.{CallVerdict}
 use Rattle.refusals.specs.declared.CallVerdict.the-variants.{Accepted, Refused}
 use Rattle.sittings.specs.Sittings.{traced}
-use Rattle.saved.specs.Format.{countIn, stateIn, opensFrom, opensOf, wellFormed}
+use Rattle.saved.specs.Format.{stateIn, opensFrom, opensOf, wellFormed}
 use Rattle.saved.proofs.Laws.{complete-means}
 use Rattle.saved_verdict.specs.SavedVerdict.{savedVerdict}
 

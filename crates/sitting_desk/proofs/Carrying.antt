@@ -7,22 +7,22 @@ use native.Mathlib.Omega.{arith}
 use lib.ListN.{length}
 use lib.Seq.{sets}
 use Rattle.reliability.specs.declared.Figure.{Figure}
-use Rattle.reliability.specs.Networks.{Network, Valid}
+use Rattle.reliability.specs.Networks.{Network}
 use Rattle.reliability.specs.Rule.{Tree, tree, run, more}
 use Rattle.reliability.proofs.Runs.{steps}
 use Rattle.plan.specs.Plans.{WellFormed, planOf}
 use Rattle.plan.proofs.Verdicts.{accepted-means}
 use Rattle.plan.proofs.Accepted.{plan-valid, plan-links}
 use Rattle.sittings.specs.declared.Carried.{Carried}
-use Rattle.sittings.specs.Sittings.{Open, opens, aside, resumed, traced, begun, complete, most, keeping}
+use Rattle.sittings.specs.Sittings.{opens, aside, resumed, traced, begun, complete, most, keeping}
 use Rattle.sittings.specs.Entries.{entries, opensIn, Known, InRange}
 use Rattle.sittings.proofs.Asides.{aside-open}
 use Rattle.sittings.proofs.Bounds.{depth, opens-few, tree-depth}
 use Rattle.engine.specs.Carrying.{Carries, Worked}
-use Rattle.saved.specs.Format.{countIn, stateIn, takenIn, opensOf, wellFormed, savedBytes, begunBytes}
+use Rattle.saved.specs.Format.{countIn, opensOf, wellFormed, savedBytes, begunBytes}
 use Rattle.saved.proofs.Laws.{formed-size, BegunWork, begun-means, begun-bytes}
 use Rattle.saved_verdict.proofs.Laws.{saved-means}
-use Rattle.sitting_desk.specs.Carrying.{Resumable, InRow, workOf, leftOf, Resumed, bytesOf}
+use Rattle.sitting_desk.specs.Carrying.{Resumable, InRow, workOf, Resumed, bytesOf}
 
 -- a plan's work is at most 64 splits deep
 pub plan-depth : (plan : List ℕ) → WellFormed plan → depth (tree (planOf plan)) ≤ 64

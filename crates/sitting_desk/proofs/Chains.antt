@@ -1,25 +1,22 @@
 -- Saved work from a plan's earlier sitting is put back whole, so a chain of sittings is the chain of its definition.
-use Prim.Native.Nat.{ℕ, _+_, _*_, _^_, _≤_, _<_, max}
+use Prim.Native.Nat.{ℕ, _+_, _*_, _≤_, _<_}
 use mathlib.Core.Path.{_≡_, refl, sym, ap, ap₂, _∙_, subst}
 use mathlib.Core.List.{List, [], _∷_, _++_}
-use mathlib.Core.Bool.{Bool, true, false, cond}
+use mathlib.Core.Bool.{cond}
 use native.Mathlib.Omega.{arith}
 use lib.Dec.{eqb}
 use lib.ListN.{length, take, drop, getD, List·getD-append}
 use lib.Seq.{take-at}
-use borrow.Author.Tests.{le-leb}
-use Rattle.reliability.specs.declared.Figure.{Figure}
 use Rattle.reliability.specs.Networks.{Network, Valid}
 use Rattle.reliability.specs.Rule.{Tree, tree}
-use Rattle.plan.specs.Plans.{WellFormed, sizeM, planOf}
+use Rattle.plan.specs.Plans.{WellFormed, planOf}
 use Rattle.plan.proofs.Verdicts.{accepted-means}
 use Rattle.plan.proofs.Accepted.{plan-valid, plan-links}
 use Rattle.refusals.specs.declared.CallVerdict.the-variants.{Accepted}
-use Rattle.sittings.specs.Sittings.{traced, Saved, begun, complete, Sitting, nothing, most, sitting, savedAfter}
+use Rattle.sittings.specs.Sittings.{traced, Saved, begun, complete, nothing, sitting, savedAfter}
 use Rattle.sittings.proofs.Totals.{Fits, saved-fits}
-use Rattle.saved.specs.Format.{countIn, stateIn, takenIn, opensOf, places, wellFormed, savedBytes, over}
-use Rattle.saved.proofs.Laws.{Fit, begun-size, complete-size, begun-state, begun-taken, begun-count, begun-opens, begun-formed, complete-count, complete-state, complete-answer, complete-formed, zeros, zeros-nothing}
-use Rattle.saved_verdict.specs.SavedVerdict.{savedVerdict}
+use Rattle.saved.specs.Format.{countIn, stateIn, savedBytes, over}
+use Rattle.saved.proofs.Laws.{begun-size, complete-size, begun-state, begun-taken, begun-count, begun-opens, begun-formed, complete-state, complete-answer, complete-formed}
 use Rattle.saved_verdict.proofs.Laws.{saved-means, complete-passes}
 use Rattle.sitting_desk.specs.Outcome.{SittingOutcome, carriedOn, verdictOf}
 use Rattle.sitting_desk.specs.Chains.{Lent, Allowed, AllAllowed, handed, sat, handedOn, limits}

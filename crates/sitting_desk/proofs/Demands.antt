@@ -22,10 +22,10 @@ use Rattle.answers.proofs.Laws.{steps-written}
 use Rattle.sittings.specs.Sittings.{Open, opens, resumed, Saved, begun, complete, Sitting, nothing, most, sitting, savedAfter}
 use Rattle.sittings.proofs.Bounds.{depth, opens-depth, resumed-depth}
 use Rattle.sittings.proofs.Totals.{totals, total-figure, capped, first-figure, at-most}
-use Rattle.saved.specs.Format.{stateIn, takenIn, opensOf, wellFormed, savedBytes, over}
-use Rattle.saved.proofs.Laws.{CompleteWork, complete-means, begun-means, begun-size, complete-size, begun-state, begun-count, complete-state, zeros, zeros-nothing}
+use Rattle.saved.specs.Format.{stateIn, takenIn, opensOf, savedBytes, over}
+use Rattle.saved.proofs.Laws.{complete-means, begun-means, begun-size, complete-size, begun-state, begun-count, complete-state, zeros, zeros-nothing}
 use Rattle.saved_verdict.proofs.Laws.{saved-means}
-use Rattle.sitting_desk.specs.Outcome.{SittingOutcome, carriedOn, givenAgain, verdictOf, sittingOf, sittingOutcome}
+use Rattle.sitting_desk.specs.Outcome.{SittingOutcome, carriedOn, verdictOf, sittingOf, sittingOutcome}
 use Rattle.sitting_desk.specs.Chains.{Lent, Allowed, AllAllowed, handed, sat, handedOn, limits}
 use Rattle.sitting_desk.specs.Demands.{Full, Refusal, Keeps}
 use Rattle.sitting_desk.proofs.Carrying.{plan-depth}

@@ -1,6 +1,6 @@
 -- A sitting's outcome: refused, complete or carried on.
 use Prim.Native.Nat.{ℕ, _≤_}
-use mathlib.Core.Path.{_≡_, sym, ap, ap₂, _∙_}
+use mathlib.Core.Path.{_≡_, sym, ap, _∙_}
 use mathlib.Core.List.{List, _++_}
 use mathlib.Core.Bool.{Bool, true, false, cond}
 use lib.Dec.{eqb}
@@ -13,10 +13,9 @@ use Rattle.refusals.specs.declared.CallVerdict.{CallVerdict}
 use Rattle.refusals.specs.declared.CallVerdict.the-variants.{Accepted, Refused}
 use Rattle.refusals.specs.Refusals.{callReturned, sittingVerdict}
 use Rattle.refusals.proofs.Calls.{also-means, sitting-means}
-use Rattle.sittings.specs.Sittings.{Sitting}
 use Rattle.saved.specs.Format.{stateIn, over}
 use Rattle.saved_verdict.specs.SavedVerdict.{savedVerdict}
-use Rattle.sitting_desk.specs.Outcome.{SittingOutcome, carriedOn, givenAgain, unlessRefused, verdictOf, sittingOf, sittingOutcome}
+use Rattle.sitting_desk.specs.Outcome.{SittingOutcome, carriedOn, givenAgain, unlessRefused, verdictOf, sittingOf, acceptedOutcome, sittingOutcome}
 
 -- what is accepted: the limit, the buffers, the plan and the saved work
 pub record AcceptedCall (plan : List ℕ) (limit : ℕ) (saved : List ℕ) (room space : ℕ) : Type 0 where
@@ -48,11 +47,13 @@ module _ (plan : List ℕ) (limit : ℕ) (saved : List ℕ) where
     -- a refused call returns the verdict's number and leaves both buffers
     pub refused : (c : CallCause) → v ≡ Refused c → o ≡ record { returned = callReturned (Refused c); answer = answer; work = work }
     unfolding sittingOutcome
-    refused c e = ap (λ u. unlessRefused u answer work (cond (eqb (stateIn saved) 1) (givenAgain saved answer work) (carriedOn (sittingOf plan limit saved) answer work))) e
+    refused c e = ap (λ u. unlessRefused u answer work (acceptedOutcome plan limit saved answer work)) e
 
     accepted-by : (t : Bool) → v ≡ Accepted → eqb (stateIn saved) 1 ≡ t → o ≡ cond t (givenAgain saved answer work) (carriedOn (sittingOf plan limit saved) answer work)
     unfolding sittingOutcome
-    accepted-by t e f = ap₂ (λ u s. unlessRefused u answer work (cond s (givenAgain saved answer work) (carriedOn (sittingOf plan limit saved) answer work))) e f
+    accepted-by t e f =
+        ap (λ u. unlessRefused u answer work (acceptedOutcome plan limit saved answer work)) e
+        ∙ ap (λ s. cond s (givenAgain saved answer work) (carriedOn (sittingOf plan limit saved) answer work)) f
 
     pub completed : v ≡ Accepted → eqb (stateIn saved) 1 ≡ true → o ≡ givenAgain saved answer work
     completed = accepted-by true

@@ -41,7 +41,11 @@ verdictOf plan limit saved room space = also (sittingVerdict plan limit room spa
 abbrev pub sittingOf : List ℕ → ℕ → List ℕ → Sitting
 sittingOf plan limit saved = sitting (tree (planOf plan)) (begun (opensOf saved) (takenIn saved)) limit
 
+-- an accepted sitting, by the state of its saved work
+abbrev pub acceptedOutcome : List ℕ → ℕ → List ℕ → List ℕ → List ℕ → SittingOutcome
+acceptedOutcome plan limit saved answer work =
+    cond (eqb (stateIn saved) 1) (givenAgain saved answer work) (carriedOn (sittingOf plan limit saved) answer work)
+
 unfoldable pub sittingOutcome : List ℕ → ℕ → List ℕ → List ℕ → List ℕ → SittingOutcome
 sittingOutcome plan limit saved answer work =
-    unlessRefused (verdictOf plan limit saved (length answer) (length work)) answer work
-    (cond (eqb (stateIn saved) 1) (givenAgain saved answer work) (carriedOn (sittingOf plan limit saved) answer work))
+    unlessRefused (verdictOf plan limit saved (length answer) (length work)) answer work (acceptedOutcome plan limit saved answer work)

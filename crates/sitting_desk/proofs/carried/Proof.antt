@@ -39,7 +39,8 @@ with-earlier-requires : tie.Need-with-earlier-requires
 with-earlier-requires c κs =
     let s = c .before .before .before .before .before .before .before .before in
     let taken = c .before .before .before .before .taken-of in
-    few-carried _ _ _ (taken .result) (c .carry .result .figure) (c .carry .ensures .figure) (c .before .before .before .allowance .ensures) (omega (arith, taken .ensures, work (s .args .plan .now) (s .args .saved .now) (s .pre .0) .steps))
+    let few = few-carried _ _ _ (taken .result) (c .carry .result .figure) (c .carry .ensures .figure) (c .before .before .before .allowance .ensures) (omega (arith, taken .ensures, work (s .args .plan .now) (s .args .saved .now) (s .pre .0) .steps)) in
+    omega arith
 
 returns : tie.Need-returns
 returns c =
