@@ -3,3 +3,4 @@ pub mod Answers
 pub mod Demands
 pub mod Importances
 pub mod Differences
+pub mod Sittings

@@ -1,3 +1,4 @@
 pub mod Outcome
 pub mod Carrying
 pub mod Chains
+pub mod Demands

@@ -78,7 +78,7 @@ module _ (t : Tree) where
 -- ---- from nothing
 
 -- a limit past the most steps is the most steps
-capped : (g : Network) (n : ℕ) → sitting (tree g) nothing n ≡ sitting (tree g) nothing (min n most)
+pub capped : (g : Network) (n : ℕ) → sitting (tree g) nothing n ≡ sitting (tree g) nothing (min n most)
 unfolding sitting resumed
 capped g n =
     let same : min n most ≡ min (min n most) most = omega arith in

@@ -1,0 +1,89 @@
+-- A plan worked through several sittings: the demands on a figure hold of the last answer.
+use Prim.Native.Nat.{ℕ, _+_, _*_, _^_, _≤_, min}
+use mathlib.Core.Path.{_≡_, sym, _∙_, subst}
+use mathlib.Core.List.{List}
+use native.Mathlib.Omega.{arith}
+use lib.ListN.{length}
+use Rattle.rounding.specs.Rounding.{S}
+use Rattle.rounding.specs.declared.Direction.the-variants.{Down}
+use Rattle.reliability.specs.Exact.{exact, altogether}
+use Rattle.reliability.specs.Rule.{figure, needed}
+use Rattle.plan.specs.Plans.{WellFormed, sizeN, sizeM, planOf}
+use Rattle.refusals.specs.Refusals.{figureVerdict}
+use Rattle.answers.specs.Answers.{withFigure, lowIn, highIn, stepsIn, finishedIn}
+use Rattle.saved.proofs.Laws.{zeros}
+use Rattle.sitting_desk.specs.Outcome.{SittingOutcome}
+use Rattle.sitting_desk.specs.Chains.{Lent, Allowed, AllAllowed, sat, handedOn, limits}
+use Rattle.sitting_desk.proofs.Demands as sittings
+use Rattle.desk.specs.Outcomes.{figureOutcome}
+use Rattle.desk.specs.Answers.{LiesWithin, Marked}
+use Rattle.desk.proofs.Answers.{answers}
+use Rattle.desk.proofs.Demands.{figure-zero, figure-accepted, figure-encloses, figure-range, figure-steps, figure-marked, figure-width, figure-nesting}
+
+module _ (plan : List ℕ) (well : WellFormed plan) where
+  -- the figure under an accepted limit
+  module _ (limit : ℕ) (b : List ℕ) (few : limit ≤ 1000000) (room : 16 ≤ length b) where
+    answered : figureOutcome plan limit b .returned ≡ 0
+    answered = figure-accepted plan limit b .1 (few, room, well)
+
+    filled : withFigure (figure (planOf plan) limit) b ≡ figureOutcome plan limit b .buffer
+    unfolding figureOutcome
+    filled = answers (figureVerdict plan limit (length b)) b (withFigure (figure (planOf plan) limit) b) (figure-zero plan limit b .0 answered) .1
+
+  -- a first sitting is handed eight zero bytes and answers as the figure does under its limit
+  pub first-as-figure : (x : Lent) → Allowed x → (sat plan zeros x .returned ≡ 0) × (sat plan zeros x .answer ≡ figureOutcome plan (x .limit) (x .answer) .buffer)
+  first-as-figure x a =
+      let (zero, same) = sittings.first-sitting plan well x a in
+      (zero, same ∙ filled (x .limit) (x .answer) (a .limit) (a .room))
+
+  -- several sittings, and one more
+  module _ (xs : List Lent) (before : AllAllowed xs) (x : Lent) (a : Allowed x) where
+    abbrev last : SittingOutcome
+    last = sat plan (handedOn plan zeros xs) x
+
+    abbrev after : List ℕ
+    after = last .answer
+
+    -- their total, or 1,000,000 if that is less
+    abbrev total : ℕ
+    total = min (altogether (limits xs) + x .limit) 1000000
+
+    abbrev m : ℕ
+    m = sizeM plan
+
+    abbrev n : ℕ
+    n = sizeN plan
+
+    abbrev N : ℕ
+    N = exact Down (planOf plan)
+
+    few : total ≤ 1000000
+    few = omega arith
+
+    zero : figureOutcome plan total (x .answer) .returned ≡ 0
+    zero = answered total (x .answer) few (a .room)
+
+    -- a user who works a plan through several sittings gets the answer of one sitting whose limit is their total, or 1,000,000 if that is less
+    pub sittings-as-figure : (last .returned ≡ 0) × (after ≡ figureOutcome plan total (x .answer) .buffer)
+    sittings-as-figure =
+        let e = sittings.sittings-add-up plan well xs before x a in
+        (e .0, e .1 ∙ filled total (x .answer) few (a .room))
+
+    of-figure : (P : List ℕ → Type 0) → P (figureOutcome plan total (x .answer) .buffer) → P after
+    of-figure P = subst P (sym (sittings-as-figure .1))
+
+    -- demand 2: low × S^m ≤ S × N ≤ high × S^m, also when steps run out
+    pub sitting-encloses : (lowIn after * S ^ m ≤ S * N) × (S * N ≤ highIn after * S ^ m)
+    sitting-encloses = of-figure (λ b. (lowIn b * S ^ m ≤ S * N) × (S * N ≤ highIn b * S ^ m)) (figure-encloses plan total (x .answer) zero)
+
+    -- demand 3: the step count equals the smaller of the splits needed and the total
+    pub sitting-steps : stepsIn after ≡ min (needed (planOf plan)) total
+    sitting-steps = of-figure (λ b. stepsIn b ≡ min (needed (planOf plan)) total) (figure-steps plan total (x .answer) zero)
+
+    -- demand 3: marked unfinished exactly when the plan needs more splits, by the written rule, than the total
+    pub sitting-marked : Marked (finishedIn after) (needed (planOf plan)) total
+    sitting-marked = of-figure (λ b. Marked (finishedIn b) (needed (planOf plan)) total) (figure-marked plan total (x .answer) zero)
+
+    -- demand 3: a finished pair is at most 2m + 4n wide, however many splits and sittings it took
+    pub sitting-width : finishedIn after ≡ 1 → highIn after ≤ lowIn after + (2 * m + 4 * n)
+    sitting-width = of-figure (λ b. finishedIn b ≡ 1 → highIn b ≤ lowIn b + (2 * m + 4 * n)) (figure-width plan total (x .answer) zero)

@@ -1,0 +1,146 @@
+-- Saved work from a plan's earlier sitting is put back whole, so a chain of sittings is the chain of its definition.
+use Prim.Native.Nat.{ℕ, _+_, _*_, _^_, _≤_, _<_, max}
+use mathlib.Core.Path.{_≡_, refl, sym, ap, ap₂, _∙_, subst}
+use mathlib.Core.List.{List, [], _∷_, _++_}
+use mathlib.Core.Bool.{Bool, true, false, cond}
+use native.Mathlib.Omega.{arith}
+use lib.Dec.{eqb}
+use lib.ListN.{length, take, drop, getD, List·getD-append}
+use lib.Seq.{take-at}
+use borrow.Author.Tests.{le-leb}
+use Rattle.reliability.specs.declared.Figure.{Figure}
+use Rattle.reliability.specs.Networks.{Network, Valid}
+use Rattle.reliability.specs.Rule.{Tree, tree}
+use Rattle.plan.specs.Plans.{WellFormed, sizeM, planOf}
+use Rattle.plan.proofs.Verdicts.{accepted-means}
+use Rattle.plan.proofs.Accepted.{plan-valid, plan-links}
+use Rattle.refusals.specs.declared.CallVerdict.the-variants.{Accepted}
+use Rattle.sittings.specs.Sittings.{traced, Saved, begun, complete, Sitting, nothing, most, sitting, savedAfter}
+use Rattle.sittings.proofs.Totals.{Fits, saved-fits}
+use Rattle.saved.specs.Format.{countIn, stateIn, takenIn, opensOf, places, wellFormed, savedBytes, over}
+use Rattle.saved.proofs.Laws.{Fit, begun-size, complete-size, begun-state, begun-taken, begun-count, begun-opens, begun-formed, complete-count, complete-state, complete-answer, complete-formed, zeros, zeros-nothing}
+use Rattle.saved_verdict.specs.SavedVerdict.{savedVerdict}
+use Rattle.saved_verdict.proofs.Laws.{saved-means, complete-passes}
+use Rattle.sitting_desk.specs.Outcome.{SittingOutcome, carriedOn, verdictOf}
+use Rattle.sitting_desk.specs.Chains.{Lent, Allowed, AllAllowed, handed, sat, handedOn, limits}
+use Rattle.sitting_desk.specs.Demands.{Keeps}
+use Rattle.sitting_desk.proofs.Outcomes.{call-accepted, completed, carried}
+use Rattle.sitting_desk.proofs.Places.{places-fit}
+
+-- ---- what is handed on
+
+-- the bytes that saved work of this state and count takes
+abbrev pub span : List ℕ → ℕ
+span b = cond (eqb (stateIn b) 1) 24 (8 + 12 * countIn b)
+
+-- saved work written over a buffer is handed on whole
+pub handed-over : (b w : List ℕ) → 8 ≤ length b → length b ≡ span b → handed (over b w) ≡ b
+unfolding handed
+handed-over b w h e =
+    let q = drop (length b) w in
+    let at : (n : ℕ) → n < 8 → getD (b ++ q) n 0 ≡ getD b n 0 = λ n l. List·getD-append b q 0 n (omega arith) in
+    let state : stateIn (b ++ q) ≡ stateIn b = omega (arith, at 2 (omega arith), at 3 (omega arith)) in
+    let count : countIn (b ++ q) ≡ countIn b = omega (arith, at 0 (omega arith), at 1 (omega arith)) in
+    ap₂ (λ s c. take (cond (eqb s 1) 24 (8 + 12 * c)) (b ++ q)) state count ∙ take-at b q (span b) e
+
+pub begun-span : (b : List ℕ) → stateIn b ≡ 0 → length b ≡ 8 + 12 * countIn b → length b ≡ span b
+begun-span b e h = h ∙ ap (λ s. cond (eqb s 1) 24 (8 + 12 * countIn b)) (sym e)
+
+pub complete-span : (b : List ℕ) → stateIn b ≡ 1 → length b ≡ 24 → length b ≡ span b
+complete-span b e h = h ∙ ap (λ s. cond (eqb s 1) 24 (8 + 12 * countIn b)) (sym e)
+
+-- ---- one sitting
+
+module _ (plan : List ℕ) (well : WellFormed plan) where
+  abbrev g : Network
+  g = planOf plan
+
+  abbrev t : Tree
+  t = tree g
+
+  valid : Valid g
+  valid = plan-valid plan (accepted-means plan .1 well)
+
+  few-links : length (g .links) ≤ 64
+  few-links = omega (arith, plan-links plan, well .links)
+
+  -- saved work that fits the plan, in its bytes
+  pub kept : (s : Saved) → Fits g s → Keeps plan (savedBytes s)
+  kept (begun os n) f =
+      let few : length os ≤ 64 = omega (arith, f .few, few-links) in
+      let fit = places-fit g valid few-links os (f .traces) in
+      let formed = begun-formed os n few fit (f .in-order) (f .in-range) (f .within) in
+      record {
+        size = omega (arith, begun-size os n, f .few, plan-links plan);
+        enough = omega (arith, begun-size os n);
+        again = saved-means t (savedBytes (begun os n)) .1 (formed, ap (traced t) (begun-opens os n few fit (f .in-order) (f .in-range)) ∙ f .traces);
+      }
+  kept (complete f) c = record {
+    size = omega (arith, complete-size f);
+    enough = omega (arith, complete-size f);
+    again = sym (complete-passes t (savedBytes (complete f)) (complete-formed f (c .few)) (complete-state f));
+  }
+
+  pub handed-again : (s : Saved) → Fits g s → (w : List ℕ) → handed (over (savedBytes s) w) ≡ savedBytes s
+  handed-again (begun os n) f w =
+      let b = savedBytes (begun os n) in
+      let few : length os ≤ 64 = omega (arith, f .few, few-links) in
+      handed-over b w (omega (arith, begun-size os n)) (begun-span b (begun-state os n) (omega (arith, begun-size os n, begun-count os n few)))
+  handed-again (complete f) c w =
+      let b = savedBytes (complete f) in
+      handed-over b w (omega (arith, complete-size f)) (complete-span b (complete-state f) (complete-size f))
+
+  accept : (saved : List ℕ) → Keeps plan saved → (x : Lent) → Allowed x → verdictOf plan (x .limit) saved (length (x .answer)) (length (x .work)) ≡ Accepted
+  accept saved k x a =
+      call-accepted plan (x .limit) saved (length (x .answer)) (length (x .work)) (record { limited = a .limit; answer = a .room; work = a .space; well = well; saves = k .again })
+
+  -- a sitting that is handed it is the sitting of its definition
+  pub one : (s : Saved) → Fits g s → (x : Lent) → Allowed x → sat plan (savedBytes s) x ≡ carriedOn (sitting t s (x .limit)) (x .answer) (x .work)
+  unfolding sitting
+  one (begun os n) f x a =
+      let few : length os ≤ 64 = omega (arith, f .few, few-links) in
+      let opens = begun-opens os n few (places-fit g valid few-links os (f .traces)) (f .in-order) (f .in-range) in
+      carried plan (x .limit) (savedBytes (begun os n)) (x .answer) (x .work) (accept (savedBytes (begun os n)) (kept (begun os n) f) x a) (ap (λ s. eqb s 1) (begun-state os n))
+      ∙ ap₂ (λ os n. carriedOn (sitting t (begun os n) (x .limit)) (x .answer) (x .work)) opens (begun-taken os n (omega (arith, f .within)))
+  one (complete f) c x a =
+      completed plan (x .limit) (savedBytes (complete f)) (x .answer) (x .work) (accept (savedBytes (complete f)) (kept (complete f) c) x a) (ap (λ s. eqb s 1) (complete-state f))
+      ∙ ap (λ b. record { returned = 0; answer = b ++ drop 16 (x .answer); work = over (savedBytes (complete f)) (x .work) }) (complete-answer f)
+
+  -- ---- several sittings
+
+  -- saved work that came from sittings of this plan
+  pub record Reached (s : Saved) : Type 0 where
+    pub earlier : List ℕ
+    pub same : s ≡ savedAfter t nothing earlier
+
+  pub from-nothing : Reached nothing
+  unfolding savedAfter
+  from-nothing = record { earlier = []; same = refl }
+
+  pub reached-fits : (s : Saved) → Reached s → Fits g s
+  reached-fits s r = subst (Fits g) (sym (r .same)) (saved-fits g valid (r .earlier))
+
+  -- one sitting more
+  after-one : (s : Saved) (ls : List ℕ) (l : ℕ) → savedAfter t s (ls ++ (l ∷ [])) ≡ sitting t (savedAfter t s ls) l .saved
+  unfolding savedAfter
+  after-one s [] l = refl
+  after-one s (k ∷ ls) l = after-one (sitting t s k .saved) ls l
+
+  pub reached-on : (s : Saved) → Reached s → (l : ℕ) → Reached (sitting t s l .saved)
+  reached-on s r l = record { earlier = r .earlier ++ (l ∷ []); same = ap (λ s. sitting t s l .saved) (r .same) ∙ sym (after-one nothing (r .earlier) l) }
+
+  pub reached-after : (s : Saved) → Reached s → (ls : List ℕ) → Reached (savedAfter t s ls)
+  unfolding savedAfter
+  reached-after s r [] = r
+  reached-after s r (l ∷ ls) = reached-after (sitting t s l .saved) (reached-on s r l) ls
+
+  -- what a sitting hands on
+  pub hands : (s : Saved) → Reached s → (x : Lent) → Allowed x → handed (sat plan (savedBytes s) x .work) ≡ savedBytes (sitting t s (x .limit) .saved)
+  hands s r x a =
+      ap (λ (o : SittingOutcome). handed (o .work)) (one s (reached-fits s r) x a)
+      ∙ handed-again (sitting t s (x .limit) .saved) (reached-fits (sitting t s (x .limit) .saved) (reached-on s r (x .limit))) (x .work)
+
+  pub hands-on : (s : Saved) → Reached s → (xs : List Lent) → AllAllowed xs → handedOn plan (savedBytes s) xs ≡ savedBytes (savedAfter t s (limits xs))
+  unfolding handedOn savedAfter
+  hands-on s r [] a = refl
+  hands-on s r (x ∷ xs) a = ap (λ b. handedOn plan b xs) (hands s r x (a .0)) ∙ hands-on (sitting t s (x .limit) .saved) (reached-on s r (x .limit)) xs (a .1)

@@ -1,0 +1,238 @@
+-- What is claimed of a sitting, over what the call returns and what it leaves in its two buffers.
+use Prim.Native.Nat.{ℕ, _+_, _-_, _≤_, min}
+use mathlib.Core.Path.{_≡_, refl, sym, ap, ap₂, _∙_, subst}
+use mathlib.Core.List.{List, _++_}
+use mathlib.Core.Logic.{_⊎_, inl, inr, _↔_}
+use mathlib.Core.Bool.{Bool, true, false}
+use native.Mathlib.Omega.{arith}
+use lib.Dec.{eqb}
+use lib.ListN.{length, take, drop, length-append, length-drop}
+use lib.Seq.{length-take-le, drop-at, drop-append-seam}
+use borrow.Author.Tests.{eqb-true}
+use Rattle.reliability.specs.declared.Figure.{Figure}
+use Rattle.reliability.specs.Exact.{altogether}
+use Rattle.reliability.specs.Rule.{figure, Tree, tree, run, more}
+use Rattle.plan.specs.Plans.{WellFormed, planOf}
+use Rattle.refusals.specs.declared.CallVerdict.{CallVerdict}
+use Rattle.refusals.specs.declared.CallVerdict.the-variants.{Accepted, Refused}
+use Rattle.refusals.specs.Refusals.{callReturned}
+use Rattle.refusals.proofs.Calls.{call-number-range, zero-accepted}
+use Rattle.answers.specs.Answers.{answerBytes, withFigure, stepsIn}
+use Rattle.answers.proofs.Laws.{steps-written}
+use Rattle.sittings.specs.Sittings.{Open, opens, resumed, Saved, begun, complete, Sitting, nothing, most, sitting, savedAfter}
+use Rattle.sittings.proofs.Bounds.{depth, opens-depth, resumed-depth}
+use Rattle.sittings.proofs.Totals.{totals, total-figure, capped, first-figure, at-most}
+use Rattle.saved.specs.Format.{stateIn, takenIn, opensOf, wellFormed, savedBytes, over}
+use Rattle.saved.proofs.Laws.{CompleteWork, complete-means, begun-means, begun-size, complete-size, begun-state, begun-count, complete-state, zeros, zeros-nothing}
+use Rattle.saved_verdict.proofs.Laws.{saved-means}
+use Rattle.sitting_desk.specs.Outcome.{SittingOutcome, carriedOn, givenAgain, verdictOf, sittingOf, sittingOutcome}
+use Rattle.sitting_desk.specs.Chains.{Lent, Allowed, AllAllowed, handed, sat, handedOn, limits}
+use Rattle.sitting_desk.specs.Demands.{Full, Refusal, Keeps}
+use Rattle.sitting_desk.proofs.Carrying.{plan-depth}
+use Rattle.sitting_desk.proofs.Outcomes.{AcceptedCall, accepted-call, call-accepted, refused, completed, carried}
+use Rattle.sitting_desk.proofs.Chains.{span, handed-over, begun-span, complete-span, kept, one, Reached, from-nothing, reached-fits, reached-on, reached-after, hands, hands-on}
+
+-- ---- demand 1
+
+-- p over the answer and b over the work
+full : (p b answer work : List ℕ) (o : SittingOutcome) → o ≡ record { returned = 0; answer = p ++ drop 16 answer; work = over b work }
+    → length p ≡ 16 → 16 ≤ length answer → 776 ≤ length work → length b ≤ 776 → 8 ≤ length b → length b ≡ span b → Full o answer work
+full p b answer work o e size room space few some spans =
+    let q = over b work in
+    let h = handed-over b work some spans in
+    subst (λ o. Full o answer work) (sym e) (record {
+      zero = refl;
+      later = drop-at p (drop 16 answer) 16 size;
+      size = omega (arith, length-append p (drop 16 answer), length-drop 16 answer);
+      written = ap (λ c. over c work) (sym h);
+      behind = ap (λ c. drop (length c) q) h ∙ drop-append-seam b (drop (length b) work) ∙ ap (λ c. drop (length c) work) (sym h);
+      work-size = omega (arith, length-append b (drop (length b) work), length-drop (length b) work);
+      few = omega (arith, ap length h);
+    })
+
+-- what a sitting saves has its own size, and no more than 64 open splits
+saved-span : (t : Tree) → depth t ≤ 64 → (os : List Open) (n limit : ℕ) → let b = savedBytes (sitting t (begun os n) limit .saved) in (length b ≤ 776) × (8 ≤ length b) × (length b ≡ span b)
+unfolding sitting
+saved-span t deep os n limit = go (run u l .finished)
+  where
+    u : Tree
+    u = resumed t os
+
+    l : ℕ
+    l = min limit (most - n)
+
+    f : Figure
+    f = more n (run u l)
+
+    go : (c : Bool) → let b = savedBytes (elim c [ true ↦ complete f | false ↦ begun (opens u l) (f .steps) ]) in (length b ≤ 776) × (8 ≤ length b) × (length b ≡ span b)
+    go true =
+        let e = complete-size f in
+        (omega arith, omega arith, complete-span (savedBytes (complete f)) (complete-state f) e)
+    go false =
+        let e = begun-size (opens u l) (f .steps) in
+        let few : length (opens u l) ≤ 64 = omega (arith, opens-depth u l, resumed-depth t os) in
+        (omega arith, omega arith, begun-span (savedBytes (begun (opens u l) (f .steps))) (begun-state (opens u l) (f .steps)) (omega (arith, begun-count (opens u l) (f .steps) few)))
+
+module _ (plan : List ℕ) (limit : ℕ) (saved answer work : List ℕ) where
+  abbrev v : CallVerdict
+  v = verdictOf plan limit saved (length answer) (length work)
+
+  abbrev o : SittingOutcome
+  o = sittingOutcome plan limit saved answer work
+
+  -- each sitting fills the answer and writes saved work to a lent buffer; bytes behind it stay, on a refusal all:
+  -- for every input whatever
+  pub answered-or-refused : Full o answer work ⊎ Refusal o answer work
+  answered-or-refused = by-verdict v refl
+    where
+      by-state : (c : Bool) → v ≡ Accepted → eqb (stateIn saved) 1 ≡ c → Full o answer work
+      by-state true e s =
+          let h = accepted-call plan limit saved (length answer) (length work) e in
+          let one = eqb-true (stateIn saved) 1 s in
+          let w = complete-means saved (saved-means (tree (planOf plan)) saved .0 (h .saves) .0) (λ z. omega arith) in
+          full (take 16 (drop 8 saved)) saved answer work o (completed plan limit saved answer work e s)
+          (length-take-le 16 (drop 8 saved) (omega (arith, length-drop 8 saved, w .size))) (h .answer) (h .work) (omega (arith, w .size)) (omega (arith, w .size)) (complete-span saved one (w .size))
+      by-state false e s =
+          let h = accepted-call plan limit saved (length answer) (length work) e in
+          let (few, some, spans) = saved-span (tree (planOf plan)) (plan-depth plan (h .well)) (opensOf saved) (takenIn saved) limit in
+          full (answerBytes (sittingOf plan limit saved .answer)) (savedBytes (sittingOf plan limit saved .saved)) answer work o (carried plan limit saved answer work e s)
+          refl (h .answer) (h .work) few some spans
+
+      by-verdict : (u : CallVerdict) → v ≡ u → Full o answer work ⊎ Refusal o answer work
+      by-verdict Accepted e = inl (by-state (eqb (stateIn saved) 1) e refl)
+      by-verdict (Refused c) e =
+          let same = refused plan limit saved answer work c e in
+          inr (subst (λ o. Refusal o answer work) (sym same) (record { numbered = omega (arith, call-number-range c); answered = refl; worked = refl }))
+
+  -- the number returned is that of the first cause in the order 7, 9, 1 to 6, 10, 11; 0 if there is none
+  pub sitting-returned : o .returned ≡ callReturned v
+  sitting-returned = by-verdict v refl
+    where
+      by-state : (c : Bool) → v ≡ Accepted → eqb (stateIn saved) 1 ≡ c → o .returned ≡ 0
+      by-state true e s = ap (λ (o : SittingOutcome). o .returned) (completed plan limit saved answer work e s)
+      by-state false e s = ap (λ (o : SittingOutcome). o .returned) (carried plan limit saved answer work e s)
+
+      by-verdict : (u : CallVerdict) → v ≡ u → o .returned ≡ callReturned v
+      by-verdict Accepted e = by-state (eqb (stateIn saved) 1) e refl ∙ ap callReturned (sym e)
+      by-verdict (Refused c) e = ap (λ (o : SittingOutcome). o .returned) (refused plan limit saved answer work c e) ∙ ap callReturned (sym e)
+
+  accepted : o .returned ≡ 0 → v ≡ Accepted
+  accepted zero = zero-accepted v (sym sitting-returned ∙ zero)
+
+  -- a call that meets none of its rows is accepted, and no other
+  pub sitting-accepted : o .returned ≡ 0 ↔ AcceptedCall plan limit saved (length answer) (length work)
+  sitting-accepted = (
+    λ zero. accepted-call plan limit saved (length answer) (length work) (accepted zero),
+    λ h. sitting-returned ∙ ap callReturned (call-accepted plan limit saved (length answer) (length work) h),
+  )
+
+  -- ---- the steps in the answer
+
+  -- of begun work
+  module _ (zero : o .returned ≡ 0) (first : stateIn saved ≡ 0) where
+    steps-so-far : takenIn saved ≤ most
+    steps-so-far = begun-means saved (saved-means (tree (planOf plan)) saved .0 (sitting-accepted .0 zero .saves) .0) first .steps
+
+    steps-are : stepsIn (o .answer) ≡ sittingOf plan limit saved .answer .steps
+    steps-are =
+        let s = sittingOf plan limit saved in
+        ap (λ (o : SittingOutcome). stepsIn (o .answer)) (carried plan limit saved answer work (accepted zero) (ap (λ n. eqb n 1) first))
+        ∙ steps-written (s .answer) answer (omega (arith, at-most (tree (planOf plan)) (opensOf saved) (takenIn saved) limit steps-so-far))
+
+    -- or 1,000,000 if that is less; no sitting goes past it
+    pub never-past-a-million : stepsIn (o .answer) ≤ 1000000
+    never-past-a-million = omega (arith, steps-are, at-most (tree (planOf plan)) (opensOf saved) (takenIn saved) limit steps-so-far)
+
+    -- and none takes more steps than its limit
+    pub within-its-limit : stepsIn (o .answer) ≤ takenIn saved + limit
+    within-its-limit = omega (arith, steps-are, at-most (tree (planOf plan)) (opensOf saved) (takenIn saved) limit steps-so-far)
+
+-- a sitting that saves complete work answers with its figure
+complete-answers : (t : Tree) (s : Saved) (l : ℕ) (f : Figure) → sitting t s l .saved ≡ complete f → sitting t s l .answer ≡ f
+unfolding sitting
+complete-answers t (complete g) l f e = cc
+complete-answers t (begun os n) l f e = go (run (resumed t os) k .finished) e
+  where
+    k : ℕ
+    k = min l (most - n)
+
+    h : Figure
+    h = more n (run (resumed t os) k)
+
+    go : (c : Bool) → elim c [ true ↦ complete h | false ↦ begun (opens (resumed t os) k) (h .steps) ] ≡ complete f → h ≡ f
+    go true p = cc
+    go false p = let z : _≡_ {A = ℕ} 0 1 = cc in absurd (omega arith)
+
+-- ---- sittings of an accepted plan, the first of which is handed eight zero bytes
+
+module _ (plan : List ℕ) (well : WellFormed plan) where
+  -- a first sitting is handed eight zero bytes and answers as the figure does under its limit
+  pub first-sitting : (x : Lent) → Allowed x → (sat plan zeros x .returned ≡ 0) × (sat plan zeros x .answer ≡ withFigure (figure (planOf plan) (x .limit)) (x .answer))
+  first-sitting x a =
+      let e = ap (λ b. sat plan b x) (sym zeros-nothing) ∙ one plan well nothing (reached-fits plan well nothing (from-nothing plan well)) x a in (
+        ap (λ (o : SittingOutcome). o .returned) e,
+        ap (λ (o : SittingOutcome). o .answer) e ∙ ap (λ (f : Figure). withFigure f (x .answer)) (first-figure (planOf plan) (x .limit) (a .limit)),
+      )
+
+  -- several sittings, and one more
+  module _ (xs : List Lent) (before : AllAllowed xs) (x : Lent) (a : Allowed x) where
+    abbrev saved : Saved
+    saved = savedAfter (tree (planOf plan)) nothing (limits xs)
+
+    abbrev last : SittingOutcome
+    last = sat plan (handedOn plan zeros xs) x
+
+    -- their total, or 1,000,000 if that is less
+    abbrev total : ℕ
+    total = min (altogether (limits xs) + x .limit) 1000000
+
+    handed-bytes : handedOn plan zeros xs ≡ savedBytes saved
+    handed-bytes = ap (λ b. handedOn plan b xs) (sym zeros-nothing) ∙ hands-on plan well nothing (from-nothing plan well) xs before
+
+    reached : Reached plan well saved
+    reached = reached-after plan well nothing (from-nothing plan well) (limits xs)
+
+    last-is : last ≡ carriedOn (sitting (tree (planOf plan)) saved (x .limit)) (x .answer) (x .work)
+    last-is = ap (λ b. sat plan b x) handed-bytes ∙ one plan well saved (reached-fits plan well saved reached) x a
+
+    last-hands : handed (last .work) ≡ savedBytes (sitting (tree (planOf plan)) saved (x .limit) .saved)
+    last-hands = ap (λ b. handed (sat plan b x .work)) handed-bytes ∙ hands plan well saved reached x a
+
+    -- a user who works a plan through several sittings gets the answer of one sitting whose limit is their total, or 1,000,000 if that is less:
+    -- the figure under that limit, and all that one first sitting under it leaves in the same buffers
+    pub sittings-add-up : (last .returned ≡ 0) × (last .answer ≡ withFigure (figure (planOf plan) total) (x .answer))
+        × (last ≡ sat plan zeros (record { limit = total; answer = x .answer; work = x .work }))
+    sittings-add-up =
+        let t = tree (planOf plan) in
+        let once : Lent = record { limit = total; answer = x .answer; work = x .work } in
+        let h : Allowed once = record { limit = omega arith; room = a .room; space = a .space } in
+        let single = ap (λ b. sat plan b once) (sym zeros-nothing) ∙ one plan well nothing (reached-fits plan well nothing (from-nothing plan well)) once h in
+        let sum : sitting t saved (x .limit) ≡ sitting t nothing total = totals t nothing (limits xs) (x .limit) ∙ capped (planOf plan) (altogether (limits xs) + x .limit) in (
+          ap (λ (o : SittingOutcome). o .returned) last-is,
+          ap (λ (o : SittingOutcome). o .answer) last-is ∙ ap (λ (f : Figure). withFigure f (x .answer)) (total-figure (planOf plan) (limits xs) (x .limit)),
+          last-is ∙ ap (λ (s : Sitting). carriedOn s (x .answer) (x .work)) sum ∙ sym single,
+        )
+
+    -- saved work fits: 776 bytes are enough, and it is accepted again by the same plan
+    pub saved-work-fits : Keeps plan (handed (last .work))
+    saved-work-fits =
+        let s = sitting (tree (planOf plan)) saved (x .limit) .saved in
+        subst (Keeps plan) (sym last-hands) (kept plan well s (reached-fits plan well s (reached-on plan well saved reached (x .limit))))
+
+    -- a complete one is followed by the answer's 16 bytes: under any limit it gives its answer and its bytes again
+    pub complete-again : stateIn (handed (last .work)) ≡ 1 → (y : Lent) → Allowed y
+        → sat plan (handed (last .work)) y ≡ record { returned = 0; answer = take 16 (last .answer) ++ drop 16 (y .answer); work = over (handed (last .work)) (y .work) }
+    unfolding sitting
+    complete-again e y b = go next refl
+      where
+        next : Saved
+        next = sitting (tree (planOf plan)) saved (x .limit) .saved
+
+        go : (s : Saved) → next ≡ s → sat plan (handed (last .work)) y ≡ record { returned = 0; answer = take 16 (last .answer) ++ drop 16 (y .answer); work = over (handed (last .work)) (y .work) }
+        go (begun os n) p = let z : stateIn (handed (last .work)) ≡ 0 = ap stateIn (last-hands ∙ ap savedBytes p) ∙ begun-state os n in absurd (omega arith)
+        go (complete f) p =
+            let bytes : handed (last .work) ≡ savedBytes (complete f) = last-hands ∙ ap savedBytes p in
+            let fits = reached-fits plan well (complete f) (subst (Reached plan well) p (reached-on plan well saved reached (x .limit))) in
+            let answer : take 16 (last .answer) ≡ answerBytes f = ap (λ (o : SittingOutcome). take 16 (o .answer)) last-is ∙ ap answerBytes (complete-answers (tree (planOf plan)) saved (x .limit) f p) in
+            ap (λ c. sat plan c y) bytes ∙ one plan well (complete f) fits y b
+            ∙ ap₂ (λ p c. record { returned = 0; answer = p ++ drop 16 (y .answer); work = over c (y .work) }) (sym answer) (sym bytes)
