@@ -36,21 +36,6 @@ parallel-requires c κs =
     let w = c .before .before in
     (w .without-loops .ensures .1, unlooped-plain (networkOf (w .before .args .net)) (w .without-loops .result) (w .without-loops .ensures .0) (w .without-loops .ensures .1) (omega (arith, c .before .pieces .ensures, c .if1 .left)))
 
-run-requires : tie.Need-run-requires
-run-requires c κs =
-    let p = c .before .before .before .before .before .before .before in
-    let q = p .parallel in
-    let e = p .before in
-    let w = e .before .before in
-    let a = w .before .args in
-    let n = w .without-loops .result in
-    let plain = unlooped-plain (networkOf (a .net)) n (w .without-loops .ensures .0) (w .without-loops .ensures .1) (omega (arith, e .before .pieces .ensures, e .if1 .left)) in
-    let sized = sized-of (q .lifetimes) (q .result) (q .ok) in
-    let same = unlooped-same (networkOf (a .net)) n (w .without-loops .ensures .0) (w .before .pre .0 .valid) ∙ unpaired-same plain n (q .result) refl (q .ensures .0) in (
-      (unpaired-work plain n (q .result) refl (q .ensures .0) sized (q .ensures .1), w .before .pre .1),
-      (omega (arith, links-few (q .result) sized), subst (λ (u : Tree). Carries u (a .row .now) 0 (a .left)) same (w .before .pre .2)),
-    )
-
 returns-2 : tie.Need-returns-2
 returns-2 c =
     let p = c .before .before .before .before .before .before .before .before in
@@ -62,6 +47,21 @@ returns-2 c =
     let plain = unlooped-plain (networkOf (a .net)) n (w .without-loops .ensures .0) (w .without-loops .ensures .1) (omega (arith, e .before .pieces .ensures, e .if1 .left)) in
     let same = unlooped-same (networkOf (a .net)) n (w .without-loops .ensures .0) (w .before .pre .0 .valid) ∙ unpaired-same plain n (q .result) refl (q .ensures .0) in
     subst (λ (u : Tree). Worked (resumed u (opensIn (a .row .now) 0 (a .left))) (a .limit) (a .row .now) 0 (c .run .result) (c .run .last .1 .1 .1 .1 .1 .1 .1 .1 .0)) (sym same) (c .run .ensures)
+
+run-requires : tie.Need-run-requires
+run-requires c κs =
+    let p = c .before .before .before .before .before .before .before in
+    let q = p .parallel in
+    let e = p .before in
+    let w = e .before .before in
+    let a = w .before .args in
+    let n = w .without-loops .result in
+    let plain = unlooped-plain (networkOf (a .net)) n (w .without-loops .ensures .0) (w .without-loops .ensures .1) (omega (arith, e .before .pieces .ensures, e .if1 .left)) in
+    let sized = sized-of (q .lifetimes) (q .result) (q .ok) in
+    let same = unlooped-same (networkOf (a .net)) n (w .without-loops .ensures .0) (w .before .pre .0 .valid) ∙ unpaired-same plain n (q .result) refl (q .ensures .0) in (
+      (unpaired-work plain n (q .result) refl (q .ensures .0) sized (q .ensures .1), omega (arith, w .before .pre .1)),
+      (omega (arith, links-few (q .result) sized), subst (λ (u : Tree). Carries u (a .row .now) 0 (a .left)) same (w .before .pre .2)),
+    )
 
 pub carry-spec : {M : Type 1} → statement M
 carry-spec =
