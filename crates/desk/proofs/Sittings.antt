@@ -16,9 +16,9 @@ use Rattle.sitting_desk.specs.Outcome.{SittingOutcome}
 use Rattle.sitting_desk.specs.Chains.{Lent, Allowed, AllAllowed, sat, handedOn, limits}
 use Rattle.sitting_desk.proofs.Demands as sittings
 use Rattle.desk.specs.Outcomes.{figureOutcome}
-use Rattle.desk.specs.Answers.{Marked}
+use Rattle.desk.specs.Answers.{Marked, LiesWithin}
 use Rattle.desk.proofs.Answers.{answers}
-use Rattle.desk.proofs.Demands.{figure-zero, figure-accepted, figure-encloses, figure-steps, figure-marked, figure-width}
+use Rattle.desk.proofs.Demands.{figure-zero, figure-accepted, figure-encloses, figure-range, figure-steps, figure-marked, figure-nesting, figure-width}
 
 module _ (plan : List ℕ) (well : WellFormed plan) where
   -- the figure under an accepted limit
@@ -87,3 +87,14 @@ module _ (plan : List ℕ) (well : WellFormed plan) where
     -- demand 3: a finished pair is at most 2m + 4n wide, however many splits and sittings it took
     pub sitting-width : finishedIn after ≡ 1 → highIn after ≤ lowIn after + (2 * m + 4 * n)
     sitting-width = of-figure (λ b. finishedIn b ≡ 1 → highIn b ≤ lowIn b + (2 * m + 4 * n)) (figure-width plan total (x .answer) zero)
+
+    pub sitting-range : (lowIn after ≤ highIn after) × (highIn after ≤ S)
+    sitting-range = of-figure (λ b. (lowIn b ≤ highIn b) × (highIn b ≤ S)) (figure-range plan total (x .answer) zero)
+
+  -- demand 3: with a larger total the pair lies within the smaller total's, however either was cut into sittings
+  module _ (xs : List Lent) (before : AllAllowed xs) (x : Lent) (a : Allowed x) (ys : List Lent) (before′ : AllAllowed ys) (y : Lent) (a′ : Allowed y) where
+    pub sitting-nesting : total xs before x a ≤ total ys before′ y a′ → LiesWithin (after ys before′ y a′) (after xs before x a)
+    sitting-nesting h =
+        of-figure ys before′ y a′ (λ c. LiesWithin c (after xs before x a))
+        (of-figure xs before x a (λ b. LiesWithin (figureOutcome plan (total ys before′ y a′) (y .answer) .buffer) b)
+        (figure-nesting plan (total xs before x a) (total ys before′ y a′) (x .answer) (y .answer) (zero xs before x a) (zero ys before′ y a′) h))

@@ -1,4 +1,4 @@
--- The four calls: what each returns, and what it leaves in the answer buffer.
+-- What a call returns, and what it leaves in the answer buffer; a sitting's is in crate sitting_desk.
 use Prim.Native.Nat.{ℕ, _-_}
 use mathlib.Core.List.{List}
 use lib.IntN.{ℤ, pos, negsuc}
