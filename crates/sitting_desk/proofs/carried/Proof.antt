@@ -28,6 +28,18 @@ allowance-requires c κs =
 network-of-requires : tie.Need-network-of-requires
 network-of-requires c κs = search needs
 
+returns : tie.Need-returns
+returns c =
+    let s = c .before .before .before .before .before .before .before .before .before in
+    let a = s .args in
+    let n = c .before .before .before .network-of in
+    let q = c .before .before .before .before .before .before .count-of in
+    let taken = c .before .before .before .before .before .taken-of in
+    resumed-of _ (workOf (a .plan .now) (a .saved .now)) _ (leftOf (a .limit) (a .saved .now)) (taken .result) (takenIn (a .saved .now)) (a .row .now) _ (c .before .carry .result) _
+    (same-work (a .plan .now) (a .saved .now) (s .pre .0) (a .row .now) (s .pre .1) (networkOf (n .result)) (q .result) (n .ensures .0) (q .ensures))
+    (c .before .before .before .before .allowance .ensures ∙ ap (λ k. min (a .limit) (most - k)) (taken .ensures))
+    (taken .ensures) (c .before .carry .ensures) (c .with-earlier .ensures) refl
+
 carry-requires : tie.Need-carry-requires
 carry-requires c κs =
     let s = c .before .before .before .before .before .before .before in
@@ -41,18 +53,6 @@ with-earlier-requires c κs =
     let taken = c .before .before .before .before .taken-of in
     let few = few-carried _ _ _ (taken .result) (c .carry .result .figure) (c .carry .ensures .figure) (c .before .before .before .allowance .ensures) (omega (arith, taken .ensures, work (s .args .plan .now) (s .args .saved .now) (s .pre .0) .steps)) in
     omega arith
-
-returns : tie.Need-returns
-returns c =
-    let s = c .before .before .before .before .before .before .before .before .before in
-    let a = s .args in
-    let n = c .before .before .before .network-of in
-    let q = c .before .before .before .before .before .before .count-of in
-    let taken = c .before .before .before .before .before .taken-of in
-    resumed-of _ (workOf (a .plan .now) (a .saved .now)) _ (leftOf (a .limit) (a .saved .now)) (taken .result) (takenIn (a .saved .now)) (a .row .now) _ (c .before .carry .result) _
-    (same-work (a .plan .now) (a .saved .now) (s .pre .0) (a .row .now) (s .pre .1) (networkOf (n .result)) (q .result) (n .ensures .0) (q .ensures))
-    (c .before .before .before .before .allowance .ensures ∙ ap (λ k. min (a .limit) (most - k)) (taken .ensures))
-    (taken .ensures) (c .before .carry .ensures) (c .with-earlier .ensures) refl
 
 pub carried-spec : {M : Type 1} → statement M
 carried-spec =
