@@ -522,7 +522,7 @@ run-behind-requires : (t : ℕ) → run-lts.Need-behind-requires (claims t) (run
 run-behind-requires t c κs = search needs
 
 run-is-known-requires : (t : ℕ) → run-lts.Need-is-known-requires (claims t) (run-at t) run.Post
-run-is-known-requires t c κs = let s = c .before .before .before .before .before .before in (row-room t s, carries t (told t s) .size)
+run-is-known-requires t c κs = let s = c .before .before .before .before .before .before in (omega (arith, row-room t s), carries t (told t s) .size)
 
 abbrev Asked : ℕ → Type 0
 Asked t = run-lts.After-is-known (claims t) (run-at t) run.Post
