@@ -1,7 +1,7 @@
 /* Works a plan in sittings of 1,000 steps: sittings PLAN SAVED [compare]. Each run is one sitting. It carries on the work
-   that the file SAVED holds, or begins if there is no such file, prints the answer so far and writes the file anew. With
-   the word compare it also prints what one run of as many steps answers. Exit status: 0 if all is answered, 1 if a call is
-   refused, 2 if the words are wrong or a file cannot be read or written. */
+   that the file SAVED holds, or begins if there is no such file, prints the answer so far and writes the file anew, by
+   way of SAVED.new. With the word compare it also prints what one run of as many steps answers. Exit status: 0 if all is
+   answered, 1 if a call is refused, 2 if the words are wrong or a file cannot be read or written. */
 
 #include "print.h"
 
@@ -43,13 +43,18 @@ static void read_saved(const char *name, struct contents *saved)
     read_file(file, name, saved);
 }
 
-/* Begun work has 12 bytes for each open split, complete work has an answer. */
+/* Begun work has 12 bytes for each open split, complete work has an answer. It is written beside the file and then takes
+   its name, so that the file keeps the work before if there is no room for this. */
 static void write_saved(const char *name, const uint8_t *work)
 {
     size_t open = work[0] | work[1] << 8, length = work[2] == 0 ? 8 + 12 * open : 8 + PLANDESK_ANSWER;
-    FILE *file = fopen(name, "wb");
-    if (file == NULL || fwrite(work, 1, length, file) != length || fclose(file) != 0)
+    char *beside = malloc(strlen(name) + sizeof ".new");
+    if (beside == NULL)
         fail(name);
+    FILE *file = fopen(strcat(strcpy(beside, name), ".new"), "wb");
+    if (file == NULL || fwrite(work, 1, length, file) != length || fclose(file) != 0 || rename(beside, name) != 0)
+        fail(beside);
+    free(beside);
 }
 
 int main(int count, char **words)

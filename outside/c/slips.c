@@ -3,7 +3,8 @@
 
    SLIP is the number of a kind and eight more numbers. Of kinds 0 and 1: the call (0 check, 1 figure, 2 importance,
    3 difference, 4 sitting), what is wrong, by how much; and where: of an answer (kind 0) the least and the most links, whether
-   it is finished, the least and the most steps; of a refusal (kind 1) its number without the link. Of other kinds: none. */
+   it is finished, the least and the most steps; of a refusal (kind 1) its number without the link. Of kinds 70 and more the
+   call, and of kind 76 a count. Of other kinds: none. */
 
 #include "plandesk.h"
 
@@ -469,6 +470,53 @@ static uint64_t afterwards(const struct call *c, const long *s, uint64_t returne
     return returned;
 }
 
+/* Lengths read in fewer bits. */
+static void narrowed(struct call *c, long kind)
+{
+    if (kind == 70) /* the plan's, in 16 bits */
+        c->a_len &= 0xffff;
+    if (kind == 71) /* plan B's or the saved work's, in 16 bits */
+        c->b_len &= 0xffff;
+    if (kind == 72) /* the answer buffer's, in 16 bits */
+        c->room &= 0xffff;
+    if (kind == 73) /* the work buffer's, in 16 bits */
+        c->work_room &= 0xffff;
+    if (kind == 74) /* plan B's or the saved work's, in 17 bits */
+        c->b_len &= 0x1ffff;
+    if (kind == 75) /* plan B's or the saved work's, in 10 bits */
+        c->b_len &= 0x3ff;
+}
+
+/* The place of the last of more than so many open splits is not tested. */
+static uint64_t with_the_last_place(struct call *c, size_t most)
+{
+    uint8_t copy[788];
+    if (!begun(c) || c->b[0] <= most)
+        return proved(c);
+    memcpy(copy, c->b, c->b_len);
+    put(copy + 4 + 4 * copy[0], 0);
+    return from(c, copy, c->b_len, 0);
+}
+
+/* Whether what such a kind says lies at an odd address. */
+static int is_odd(const struct call *c, long kind)
+{
+    const uint8_t *at[] = {c->a, c->b, c->answer, c->work};
+    return 80 <= kind && kind <= 83 && (uintptr_t)at[kind - 80] % 2 == 1;
+}
+
+/* Kinds 70 and more, of one call. */
+static uint64_t of_one_call(struct call *c, const long *s)
+{
+    if (c->which != s[1])
+        return proved(c);
+    narrowed(c, s[0]);
+    uint64_t returned = s[0] == 76 ? with_the_last_place(c, s[2]) : proved(c);
+    if (returned == 0 && is_odd(c, s[0]))
+        c->work[length(c->work) - 1] ^= 1;
+    return returned;
+}
+
 static uint64_t slipped(struct call c)
 {
     long s[9] = {-1, 0, 0, 0, 0, 0, 0, 0, 0};
@@ -479,7 +527,7 @@ static uint64_t slipped(struct call c)
         text = end;
     }
     struct call asked = c;
-    uint64_t returned = otherwise(&asked, s);
+    uint64_t returned = s[0] >= 70 ? of_one_call(&asked, s) : otherwise(&asked, s);
     if (s[0] == 0)
         return wrong_answer(&c, s, returned);
     if (s[0] == 1)

@@ -205,8 +205,59 @@ const OTHERS: [(i64, &str); 62] = [
     (68, "sitting: 65 open splits are accepted"),
 ];
 
+/// Lengths in fewer bits, places of many open splits and odd addresses: the kind, its name, and the calls that have it.
+const OF_CALLS: [(i64, &str, &[usize]); 12] = [
+    (70, "a plan's length is 16 bits", &[0, 1, 2, 3, 4]),
+    (71, "plan B's length is 16 bits", &[3]),
+    (72, "an answer buffer's length is 16 bits", &[1, 2, 3, 4]),
+    (71, "the length of saved work is 16 bits", &[4]),
+    (74, "the length of saved work is 17 bits", &[4]),
+    (75, "the length of saved work is 10 bits", &[4]),
+    (73, "a work buffer's length is 16 bits", &[4]),
+    (76, "the last of many places is not tested", &[4]),
+    (
+        80,
+        "a byte is wrong where the plan is at an odd address",
+        &[4],
+    ),
+    (
+        81,
+        "a byte is wrong where saved work is at an odd address",
+        &[4],
+    ),
+    (
+        82,
+        "a byte is wrong where the answer is at an odd address",
+        &[4],
+    ),
+    (
+        83,
+        "a byte is wrong where the work is at an odd address",
+        &[4],
+    ),
+];
+
+fn of_calls() -> Vec<Slip> {
+    let mut slips = Vec::new();
+    for (kind, name, calls) in OF_CALLS {
+        for &call in calls {
+            let counts: &[i64] = if kind == 76 { &[20, 40] } else { &[0] };
+            for &count in counts {
+                let more = match count {
+                    0 => String::new(),
+                    count => format!(", more than {count}"),
+                };
+                let name = format!("{}: {name}{more}", CALLS[call]);
+                slips.push(slip(name, &[kind, call as i64, count]));
+            }
+        }
+    }
+    slips
+}
+
 fn slips() -> Vec<Slip> {
     let mut slips = of_refusals();
+    slips.extend(of_calls());
     slips.extend(OTHERS.map(|(kind, name)| slip(name.into(), &[kind])));
     slips.extend(of_answers());
     slips

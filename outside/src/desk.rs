@@ -116,14 +116,29 @@ pub fn hold(call: &Call, room: usize, outcome: &Outcome) {
 
 /// The same of a sitting, into two buffers of these sizes, each with a guard behind.
 pub fn hold_sitting(sitting: &Sitting, rooms: [usize; 2], outcome: &Result<Sat, u64>) {
-    let before = rooms.map(|room| pattern(room + GUARD));
+    hold_sitting_at(sitting, rooms, [0, 0], outcome);
+}
+
+/// The same, with so many bytes before each buffer.
+pub fn hold_sitting_at(
+    sitting: &Sitting,
+    rooms: [usize; 2],
+    first: [usize; 2],
+    outcome: &Result<Sat, u64>,
+) {
+    let before = [0, 1].map(|i| pattern(first[i] + rooms[i] + GUARD));
     let [mut answer, mut work] = before.clone();
-    let returned = sat(sitting, &mut answer[..rooms[0]], &mut work[..rooms[1]]);
-    let expected = sittings::left(outcome, &before[0], &before[1]);
+    let to_answer = &mut answer[first[0]..][..rooms[0]];
+    let to_work = &mut work[first[1]..][..rooms[1]];
+    let returned = sat(sitting, to_answer, to_work);
+    let [(front, old), (work_front, old_work)] = [0, 1].map(|i| before[i].split_at(first[i]));
+    let (number, left, left_work) = sittings::left(outcome, old, old_work);
+    let left = [front, &left].concat();
+    let left_work = [work_front, &left_work].concat();
     assert_eq!(
         (returned, answer, work),
-        expected,
-        "{sitting:?}, rooms {rooms:?}, {outcome:?}"
+        (number, left, left_work),
+        "{sitting:?}, rooms {rooms:?} at {first:?}, {outcome:?}"
     );
 }
 

@@ -69,6 +69,17 @@ impl Plan {
         Plan::alike(nodes.into(), value, &ends)
     }
 
+    /// A ring of ten nodes with all its chords but three, and a path of 22 nodes at one of them. It needs 27,261 splits, and
+    /// its deepest branch goes through 64 steps, of which all but two are ends, series and splits: what those leave has to be
+    /// worked before they are done.
+    pub fn deepest() -> Plan {
+        let chord = |d: u8| (0..10).map(move |v| [v, (v + d) % 10]);
+        let core = (1..=5).flat_map(chord).take(42);
+        let path = (10..32).map(|v| [v - 1, v]);
+        let ends: Vec<[u8; 2]> = core.chain(path).collect();
+        Plan::alike(32, S / 10 * 9, &ends)
+    }
+
     /// An accepted plan, of few or many nodes.
     pub fn random(random: &mut Random, most_nodes: u8, most_links: usize) -> Plan {
         let mut count = || random.below(most_links + 1);

@@ -3,6 +3,7 @@
 
 use crate::arithmetic::S;
 use crate::calls::{answer_bytes, asked, number, read, ANSWER, MOST_STEPS};
+use crate::plans::Plan;
 use crate::rule::{figure, Figure, Link, Network, Split, Step};
 
 /// The bytes that a buffer for saved work has to have.
@@ -351,4 +352,25 @@ pub fn most_open(plan: &[u8], limit: u64) -> (usize, u64) {
         steps += 1;
     });
     most
+}
+
+/// Twelve nodes and 64 links, of which the last 18 leave three at each node: the first 46 may all be open, with nine more behind.
+pub fn most_splits() -> (Plan, Begun) {
+    let round = (0..12).map(|v| [v, (v + 1) % 12]);
+    let across = (0..6).map(|v| [v, v + 6]);
+    let last: Vec<[u8; 2]> = round.chain(across).collect();
+    let pairs = (0..12).flat_map(|b| (0..b).map(move |a| [a, b]));
+    let others = pairs.filter(|[a, b]| !last.contains(&[*a, *b]) && !last.contains(&[*b, *a]));
+    let ends: Vec<[u8; 2]> = others.skip(2).chain(last.clone()).collect();
+    let known = [S / 3, S / 2];
+    let inner = "rrrrkrrrk"
+        .chars()
+        .map(|c| if c == 'r' { RUNNING } else { known });
+    let pairs: Vec<[u32; 2]> = [known; 46].into_iter().chain(inner).collect();
+    let work = Begun {
+        places: vec![0; pairs.len()],
+        pairs,
+        steps: 600_000,
+    };
+    (Plan::alike(12, S / 10 * 9, &ends), work)
 }

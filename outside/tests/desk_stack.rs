@@ -7,21 +7,10 @@ use outside::plans::Plan;
 use outside::random::Random;
 use outside::repository::plan;
 use outside::rule::{needed, Network};
-use outside::sittings::{self, most_open, Begun, Sat, Sitting, NOTHING, RUNNING, WORK};
+use outside::sittings::{self, most_open, most_splits, Sat, Sitting, NOTHING, RUNNING, WORK};
 use std::thread;
 
 const STACK: usize = 512 * 1024;
-
-/// A ring of ten nodes with all its chords but three, and a path of 22 nodes at one of them. It needs 27,261 splits, and
-/// its deepest branch goes through 64 steps, of which all but two are ends, series and splits: what those leave has to be
-/// worked before they are done.
-fn deepest() -> Plan {
-    let chord = |d: u8| (0..10).map(move |v| [v, (v + d) % 10]);
-    let core = (1..=5).flat_map(chord).take(42);
-    let path = (10..32).map(|v| [v - 1, v]);
-    let ends: Vec<[u8; 2]> = core.chain(path).collect();
-    Plan::alike(32, S / 10 * 9, &ends)
-}
 
 /// Makes the call on a thread with a stack of that size, where an overrun ends the whole test.
 fn on_a_small_stack(call: Call) {
@@ -37,8 +26,8 @@ fn on_a_small_stack(call: Call) {
 
 #[test]
 fn the_worst_chain_of_splits() {
-    assert_eq!(needed(Network::from(&deepest())), 27_261);
-    let plan = &deepest().bytes();
+    assert_eq!(needed(Network::from(&Plan::deepest())), 27_261);
+    let plan = &Plan::deepest().bytes();
     let limit = MOST_STEPS;
     on_a_small_stack(Call::Check { plan });
     on_a_small_stack(Call::Figure { plan, limit });
@@ -87,7 +76,7 @@ fn sitting_on_a_small_stack(sitting: &Sitting) -> Sat {
 #[test]
 fn the_worst_chain_of_splits_carried_on() {
     for (plan, open, after) in [
-        (deepest(), 32, 27_250),
+        (Plan::deepest(), 32, 27_250),
         (Plan::complete(10, S / 3), 27, 40_198),
     ] {
         let plan = &plan.bytes();
@@ -103,27 +92,6 @@ fn the_worst_chain_of_splits_carried_on() {
             assert_eq!(saved[2], state);
         }
     }
-}
-
-/// Twelve nodes and 64 links, of which the last 18 leave three at each node: the first 46 may all be open, with nine more behind.
-fn most_splits() -> (Plan, Begun) {
-    let round = (0..12).map(|v| [v, (v + 1) % 12]);
-    let across = (0..6).map(|v| [v, v + 6]);
-    let last: Vec<[u8; 2]> = round.chain(across).collect();
-    let pairs = (0..12).flat_map(|b| (0..b).map(move |a| [a, b]));
-    let others = pairs.filter(|[a, b]| !last.contains(&[*a, *b]) && !last.contains(&[*b, *a]));
-    let ends: Vec<[u8; 2]> = others.skip(2).chain(last.clone()).collect();
-    let known = [S / 3, S / 2];
-    let inner = "rrrrkrrrk"
-        .chars()
-        .map(|c| if c == 'r' { RUNNING } else { known });
-    let pairs: Vec<[u32; 2]> = [known; 46].into_iter().chain(inner).collect();
-    let work = Begun {
-        places: vec![0; pairs.len()],
-        pairs,
-        steps: 600_000,
-    };
-    (Plan::alike(12, S / 10 * 9, &ends), work)
 }
 
 /// The most open splits that a search has found a plan for, made up by hand; and one more, which no plan of the search has.
@@ -152,7 +120,7 @@ const THREADS: usize = 8;
 #[test]
 fn eight_threads_at_once() {
     let mut random = Random::new(71);
-    let mut files = vec![plan("mesh"), plan("two-crossings"), deepest().bytes()];
+    let mut files = vec![plan("mesh"), plan("two-crossings"), Plan::deepest().bytes()];
     files.extend([9, 20, 32].map(|nodes| Plan::random_of(&mut random, nodes, 64).bytes()));
     let (limit, place) = (3_000, 20);
     let others = files.iter().cycle().skip(1);

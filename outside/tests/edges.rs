@@ -2,6 +2,7 @@
 
 use outside::arithmetic::S;
 use outside::calls::{held, Call, Outcome};
+use outside::desk::hold_sitting_at;
 use outside::plans::{Plan, LENGTH};
 use outside::sittings::{held_into, Sitting, NOTHING, WORK};
 
@@ -58,6 +59,19 @@ fn the_most_that_passes_and_one_more() {
     assert_eq!(numbers(&ring(32, 65, S), limit), refused(3));
     assert_eq!(numbers(&ring(32, 64, S + 1), limit), refused(6));
     assert_eq!(numbers(&ring(32, 64, LENGTH + 512), limit), refused(6));
+}
+
+/// A plan with many bytes behind it is refused for its length, though in 16 or 17 bits that were the plan's own.
+#[test]
+fn plans_with_65_536_bytes_behind() {
+    for count in [1 << 16, 1 << 17, 3 << 16] {
+        for plan in [ring(3, 0, S), ring(3, 3, S), ring(32, 64, S)] {
+            for byte in [0, 1, 255] {
+                let longer = [&plan[..], &vec![byte; count]].concat();
+                assert_eq!(numbers(&longer, 0), refused(4), "{count}");
+            }
+        }
+    }
 }
 
 #[test]
@@ -140,6 +154,69 @@ fn buffers_of_a_sitting() {
             let returned = held_into(&sitting, answer, work).map(|_| ());
             assert_eq!(returned, number, "{answer} {work}");
         }
+    }
+}
+
+/// 65,536 bytes and more are enough for every buffer, whatever their number would be in 16 or 17 bits.
+#[test]
+fn buffers_of_65_536_bytes_and_more() {
+    let (plan, saved) = (&Plan::complete(5, S / 2).bytes(), &NOTHING);
+    let (limit, place) = (3, 3);
+    let sitting = Sitting { plan, limit, saved };
+    for wide in [1 << 16, 1 << 17] {
+        let rooms = [0, 15, 16, 775, 776].map(|room| wide + room);
+        for room in rooms {
+            let calls = [
+                Call::Figure { plan, limit },
+                Call::Importance { plan, place, limit },
+                Call::Difference {
+                    a: plan,
+                    b: plan,
+                    limit,
+                },
+            ];
+            for call in calls {
+                assert!(held(&call, room).is_ok(), "{call:?} {room}");
+            }
+            for work in rooms.into_iter().chain([WORK]) {
+                assert!(held_into(&sitting, room, work).is_ok(), "{room} {work}");
+                assert!(held_into(&sitting, 16, work).is_ok(), "{work}");
+                assert_eq!(held_into(&sitting, 15, work), Err(9), "{work}");
+            }
+            assert_eq!(held_into(&sitting, room, WORK - 1), Err(9), "{room}");
+        }
+    }
+}
+
+/// The bytes behind so many others.
+fn behind(first: usize, bytes: &[u8]) -> Vec<u8> {
+    [&vec![0x5a; first], bytes].concat()
+}
+
+/// Any address will do: each of the plan, the saved work, the answer and the work buffer from 0 to 8 bytes behind another, alone
+/// and all together.
+#[test]
+fn addresses_of_a_sitting() {
+    let plan = &Plan::complete(6, S / 2).bytes();
+    let mut saved = NOTHING.to_vec();
+    for limit in [0, 5, 12, 0, 1_000_000, 3] {
+        let outcome = Sitting {
+            plan,
+            limit,
+            saved: &saved,
+        }
+        .outcome(16, WORK);
+        for (first, which) in (0..=8).flat_map(|first| (0..5).map(move |which| (first, which))) {
+            let at = [0, 1, 2, 3].map(|i| if which == i || which == 4 { first } else { 0 });
+            let (plan, saved) = (behind(at[0], plan), behind(at[1], &saved));
+            let sitting = Sitting {
+                plan: &plan[at[0]..],
+                limit,
+                saved: &saved[at[1]..],
+            };
+            hold_sitting_at(&sitting, [16, WORK], [at[2], at[3]], &outcome);
+        }
+        saved = outcome.unwrap().work;
     }
 }
 

@@ -151,7 +151,7 @@ fn fresh(name: &str) -> PathBuf {
 }
 
 /// Runs of the program, each one sitting of 1,000 steps, against first sittings of the rule under their total: what is printed and
-/// what the file holds. With the word more, one run prints the same.
+/// what the file holds. With the word compare, one run prints the same.
 #[test]
 fn the_mesh_in_sittings() {
     let program = sittings("mesh-in-sittings");
@@ -215,6 +215,22 @@ fn refused_sittings() {
         (1, refused, String::new())
     );
     assert!(!saved.exists());
+}
+
+/// Where the new work cannot be written, the file keeps the work before.
+#[test]
+fn sittings_that_cannot_be_written() {
+    let program = sittings("unwritten-sittings");
+    let (mesh, saved) = (path("plans/mesh.plan"), fresh("unwritten.saved"));
+    let beside = written("unwritten.saved.new");
+    let _ = fs::remove_dir(&beside);
+    assert_eq!(run(&program, &[&mesh, &saved]).0, 0);
+    let before = fs::read(&saved).unwrap();
+    assert!(!beside.exists());
+    fs::create_dir(&beside).unwrap();
+    assert_eq!(run(&program, &[&mesh, &saved]).0, 2);
+    assert_eq!(fs::read(&saved).unwrap(), before);
+    fs::remove_dir(&beside).unwrap();
 }
 
 #[test]

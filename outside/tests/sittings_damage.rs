@@ -8,7 +8,8 @@ use outside::random::Random;
 use outside::repository::plan;
 use outside::rule::{needed, Network};
 use outside::sittings::{
-    held, held_into, most_open, sizes, Begun, Sitting, MOST_OPEN, NOTHING, RUNNING, WORK,
+    held, held_into, most_open, most_splits, sizes, Begun, Sitting, MOST_OPEN, NOTHING, RUNNING,
+    WORK,
 };
 
 /// How many outcomes there were of each kind.
@@ -137,6 +138,12 @@ fn several_bytes() {
     assert!(tried.least() > 200, "{tried:?}");
 }
 
+/// Lengths that a good one would be taken for, were it read in 10 to 17 bits.
+fn longer_by_powers(good: usize) -> impl Iterator<Item = usize> {
+    let lengths = [0, 8, 24, good - 1, good, good + 1];
+    (10..=17).flat_map(move |bits| lengths.map(|length| (1 << bits) + length))
+}
+
 /// Nothing but the length itself is accepted: not one byte less or more, nor the whole buffer.
 #[test]
 fn every_length() {
@@ -148,7 +155,8 @@ fn every_length() {
             for cut in 0..saved.len() {
                 assert_eq!(tried.hold(&plan, 5, &saved[..cut]), 10, "{cut}");
             }
-            for length in saved.len() + 1..=WORK + 13 {
+            let lengths = saved.len() + 1..=WORK + 13;
+            for length in lengths.chain(longer_by_powers(saved.len())) {
                 let mut longer = saved.clone();
                 let filled = random.next() as u8 * random.below(2) as u8;
                 longer.resize(length, filled);
@@ -243,32 +251,52 @@ fn with_open_splits(least: usize) -> Vec<(Vec<u8>, Begun)> {
     all
 }
 
+/// Saved work with the most open splits: 55, and the 32 of the plan with the deepest branch.
+fn with_most_open_splits() -> [(Vec<u8>, Begun); 2] {
+    let (plan, work) = most_splits();
+    let deepest = Plan::deepest().bytes();
+    let first = Sitting {
+        plan: &deepest,
+        limit: 27_250,
+        saved: &NOTHING,
+    };
+    let begun = Begun::of(&held(&first).unwrap().work);
+    assert_eq!([work.places.len(), begun.places.len()], [55, 32]);
+    [(plan.bytes(), work), (deepest, begun)]
+}
+
+const PLACES: [u32; 11] = [
+    1,
+    2,
+    3,
+    63,
+    64,
+    255,
+    256,
+    65_536,
+    1 << 24,
+    1 << 31,
+    u32::MAX,
+];
+
 /// Each place with other numbers: 11, whichever open split it is.
 #[test]
 fn every_place() {
     let mut tried = Tried::default();
-    for (plan, work) in with_open_splits(4) {
+    for (plan, work) in with_open_splits(4)
+        .into_iter()
+        .chain(with_most_open_splits())
+    {
+        assert_eq!(tried.hold(&plan, 7, &work.bytes()), 0);
         for i in 0..work.places.len() {
-            for place in [
-                1,
-                2,
-                3,
-                63,
-                64,
-                255,
-                256,
-                65_536,
-                1 << 24,
-                1 << 31,
-                u32::MAX,
-            ] {
+            for place in PLACES {
                 let mut other = work.clone();
                 other.places[i] = place;
                 assert_eq!(tried.hold(&plan, 7, &other.bytes()), 11, "{i}: {place}");
             }
         }
     }
-    assert!(tried.elevens > 500, "{tried:?}");
+    assert!(tried.elevens > 1_400, "{tried:?}");
 }
 
 /// Each pair with each two of some numbers: 10 where one is above S or low is above high, but for the running mark.
