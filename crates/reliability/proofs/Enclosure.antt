@@ -19,12 +19,12 @@ use Rattle.reliability.specs.declared.Step.{Step}
 use Rattle.reliability.specs.declared.Step.the-variants.{OneNode, Disconnected, Loop, Parallel, End, Series, Split}
 use Rattle.reliability.specs.Networks.{Network, Valid, value, linkAt}
 use Rattle.reliability.specs.Exact.{weighted}
-use Rattle.reliability.specs.Rule.{without, nextAt, leaves, stepAt, Remainder, settled, rest, scaled, branches, Tree, ready, grown, treeOf, bounded, side, times, blend, unfinished, run, budget}
+use Rattle.reliability.specs.Rule.{without, nextAt, leaves, stepAt, Remainder, settled, rest, scaled, branches, Tree, ready, fork, grown, treeOf, bounded, side, times, mixed, stepped, blend, unfinished, run, budget}
 use Rattle.reliability.proofs.States.{sum-total}
 use Rattle.reliability.proofs.Within.{Within, equal, rounded, weaken, trans, plus, by, same}
-use Rattle.reliability.proofs.Lawful.{Leaves, View, exactly, Place, Reduces, Fewer, Sized, Lawful, Choice}
+use Rattle.reliability.proofs.Lawful.{Leaves, View, exactly, Place, Reduces, Fewer, Sized, Lawful, Choice, of-tree}
 use Rattle.reliability.proofs.Runs.{side-bounded, Ranged}
-use Rattle.reliability.proofs.Steps.{view, Fits, fits-at}
+use Rattle.reliability.proofs.Steps.{view, uniform, Fits, fits-at}
 use Rattle.reliability.proofs.Validity.{valued}
 use Rattle.reliability.proofs.Reductions.{reduces, total-is}
 use Rattle.reliability.proofs.Remainders.{left-by, settled-by}
@@ -138,30 +138,46 @@ module _ {N : Type 0} (Valid : N → Type 0) (μ : View N) (step : ℕ → N →
   pub says-settled : (d : Direction) (g : N) → Sized Valid μ 0 g → (i k : ℕ) → step i g ≡ settled k → Figured μ d 0 (bounded (λ c. k) 0 true) g
   says-settled d g h i k e = at-settled μ d zero g k (h .size) (rw e at (lawful .reduces d g (h .valid) i (λ here. absurd (omega (arith, h .size)))))
 
-  below : (d : Direction) (m : ℕ) (g : N) → Sized Valid μ m g → exactly μ d g ≤ S ^ m
+  pub below : (d : Direction) (m : ℕ) (g : N) → Sized Valid μ m g → exactly μ d g ≤ S ^ m
   below d m g h =
       le-trans (sum-total (μ .terminals g) (map (weighted d) (μ .links g)) [])
       (le-of-eq (total-is d (μ .links g) (lawful .values g (h .valid) .range d) ∙ ap (λ n. S ^ n) (h .size)))
 
-  module _ (choose : N → ℕ) (choice : Choice μ choose) where
-    grown-encloses : (d : Direction) (m : ℕ) (g : N) → Sized Valid μ (suc m) g → (grow : N → Tree) → ((h : N) → Sized Valid μ m h → (l : ℕ) → Figured μ d m (run (grow h) l) h)
-        → (i : ℕ) (r : Remainder N) → Leaves (Sized Valid μ m) r → Says μ d m g r → (l : ℕ) → Figured μ d (suc m) (run (grown grow i r) l) g
-    unfolding grown run
-    grown-encloses d m g h grow each i (settled k) q say l = say
-    grown-encloses d m g h grow each i (rest x) q say l = say (run (grow x) l) (each x q l)
-    grown-encloses d m g h grow each i (scaled k x) q say l = say (run (grow x) l) (each x (q .0) l)
-    grown-encloses d m g h grow each i (branches e x y) q say zero = at-limit μ d (suc m) g (below Up (suc m) g h)
-    grown-encloses d m g h grow each i (branches e x y) q say (suc l) =
-        let s = run (grow x) l in
-        say s (run (grow y) (l - s .steps)) (each x (q .0) l) (each y (q .1) (l - s .steps))
+  pub uncounted : (d : Direction) (m : ℕ) (f : Figure) (g : N) → Figured μ d m (stepped f) g → Figured μ d m f g
+  uncounted Down m f g h = h
+  uncounted Up m f g h = h
 
+  pub counted : (d : Direction) (m : ℕ) (f : Figure) (g : N) → Figured μ d m f g → Figured μ d m (stepped f) g
+  counted Down m f g h = h
+  counted Up m f g h = h
+
+  grown-encloses : (d : Direction) (m : ℕ) (g : N) (grow : N → Tree) → ((h : N) → Sized Valid μ m h → (l : ℕ) → Figured μ d m (run (grow h) l) h)
+      → (i : ℕ) (r : Remainder N) → Leaves (Sized Valid μ m) r → Says μ d m g r → (l : ℕ) → Figured μ d (suc m) (run (grown grow i r) l) g
+  unfolding grown run
+  grown-encloses d m g grow each i (settled k) q say l = say
+  grown-encloses d m g grow each i (rest x) q say l = say (run (grow x) l) (each x q l)
+  grown-encloses d m g grow each i (scaled k x) q say l = say (run (grow x) l) (each x (q .0) l)
+  grown-encloses d m g grow each i (branches e x y) q say l =
+      let s = run (grow x) l in
+      let t = run (grow y) (l - s .steps) in
+      uncounted d (suc m) (mixed e s t) g (say s t (each x (q .0) l) (each y (q .1) (l - s .steps)))
+
+  -- a split that is still to take encloses what it encloses once it is taken
+  fork-encloses : (d : Direction) (m : ℕ) (g : N) → Sized Valid μ (suc m) g → (i : ℕ) (work : ℕ → Tree) → ((l : ℕ) → Figured μ d (suc m) (run (work i) l) g)
+      → (l : ℕ) → Figured μ d (suc m) (run (fork i work) l) g
+  unfolding run
+  fork-encloses d m g h i work each zero = at-limit μ d (suc m) g (below Up (suc m) g h)
+  fork-encloses d m g h i work each (suc l) = counted d (suc m) (run (work i) l) g (each l)
+
+  module _ (choose : N → ℕ) (choice : Choice μ choose) where
     pub encloses : (d : Direction) (m : ℕ) (g : N) → Sized Valid μ m g → (l : ℕ) → Figured μ d m (run (treeOf step choose m g) l) g
     unfolding treeOf grown run
     encloses d zero g h l =
         let (k, b, e) = lawful .none-left g h (choose g) in
         subst (λ (r : Remainder N). Figured μ d 0 (run (grown (λ h. ready (λ d. 0)) (choose g) r) l) g) (sym e) (says-settled d g h (choose g) k e)
     encloses d (suc m) g h l =
-        grown-encloses d m g h (treeOf step choose m) (encloses d m) (choose g) (step (choose g) g) (lawful .left m g h (choose g) (choice g)) (says d m g h (choose g) (choice g)) l
+        of-tree Valid μ step choose choice (λ t. (l : ℕ) → Figured μ d (suc m) (run t l) g) m g h (λ work each. fork-encloses d m g h (choose g) work (each (choose g)))
+        (λ i at. grown-encloses d m g (treeOf step choose m) (encloses d m) i (step i g) (lawful .left m g h i at) (says d m g h i at)) l
 
     -- all figures, factors and values of the tree are at most S
     grown-ranged : (m : ℕ) (grow : N → Tree) → ((h : N) → Sized Valid μ m h → Ranged (grow h)) → (i : ℕ) (r : Remainder N) → Leaves (Sized Valid μ m) r → Ranged (grown grow i r)
@@ -176,7 +192,9 @@ module _ {N : Type 0} (Valid : N → Type 0) (μ : View N) (step : ℕ → N →
     ranged zero g h =
         let (k, b, e) = lawful .none-left g h (choose g) in
         subst (λ (r : Remainder N). Ranged (grown (λ h. ready (λ d. 0)) (choose g) r)) (sym e) (λ d. b)
-    ranged (suc m) g h = grown-ranged m (treeOf step choose m) (ranged m) (choose g) (step (choose g) g) (lawful .left m g h (choose g) (choice g))
+    ranged (suc m) g h =
+        of-tree Valid μ step choose choice Ranged m g h (λ work each. each)
+        (λ i at. grown-ranged m (treeOf step choose m) (ranged m) i (step i g) (lawful .left m g h i at))
 
 -- ---- the rule of document 01
 
@@ -211,6 +229,7 @@ fewer g (Split i) h = (without-length (max (linkAt g i .a) (linkAt g i .b)) (g .
 
 pub lawful : Lawful Valid view stepAt
 lawful = record {
+  uniform = uniform;
   values = λ g. valued;
   left = λ m g h i at. left-by m g h (nextAt i g) (fits-at g (h .valid) i at);
   none-left = λ g h i. settled-by g (h .size) (nextAt i g) (fits-at g (h .valid) i (λ here. absurd (omega (arith, h .size))));

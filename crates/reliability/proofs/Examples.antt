@@ -12,7 +12,7 @@ use Rattle.reliability.specs.declared.Figure.{Figure}
 use Rattle.reliability.specs.Networks.{Network, merge, label, every, connected, lastOfEach}
 use Rattle.reliability.specs.Exact.{sum, exact}
 use Rattle.reliability.proofs.Pieces.{link}
-use Rattle.reliability.specs.Rule.{firstAt, places, firstPair, lowest, nextAt, deleteAt, without, leaves, grown, treeOf, run, figure}
+use Rattle.reliability.specs.Rule.{firstAt, places, firstPair, lowest, nextAt, degree, largest, largestSum, deleteAt, without, leaves, stepAt, grown, treeOf, run, firstLink, chosen}
 
 -- a row: nodes, links, limit; low, high, steps, finished; the exact figure in units
 pub record Row : Type 0 where
@@ -30,10 +30,11 @@ same true b = b
 same false true = false
 same false false = true
 
-pub right : Row → Bool
-right r =
+-- by a choice of the link to split on
+pub right : (Network → ℕ) → Row → Bool
+right choose r =
     let g : Network = record { nodes = r .nodes; links = r .links } in
-    let f : Figure = figure g (r .limit) in
+    let f : Figure = run (treeOf stepAt choose (length (r .links)) g) (r .limit) in
     eqb (f .low) (r .low) && eqb (f .high) (r .high) && eqb (f .steps) (r .steps) && same (f .finished) (r .finished)
     && eqb (S * exact Down g) (r .exactly * S ^ length (r .links))
 
@@ -70,10 +71,23 @@ rows =
     ∷ row (0 ∷ 1 ∷ 2 ∷ 3 ∷ []) (four half half half half half half) 0 0 S 0 false 593750000  -- P11
     ∷ row (0 ∷ 1 ∷ 2 ∷ 3 ∷ []) (four half half 0 half 0 0) 20000 0 0 1 true 0  -- zero-valued links count in step 3: one split
     ∷ row (0 ∷ 1 ∷ 2 ∷ 3 ∷ []) (four 900000000 800000000 700000000 600000000 500000000 400000000) 1 841759999 841760001 1 true 841760000
-    ∷ row (0 ∷ 1 ∷ 2 ∷ 3 ∷ 4 ∷ []) (five half) 5 710937499 710937502 5 true 710937500  -- the limit is the splits needed
+    ∷ []
+
+-- five nodes, all joined: the limit is the splits needed, and one less
+pub thickest : List Row
+thickest =
+    row (0 ∷ 1 ∷ 2 ∷ 3 ∷ 4 ∷ []) (five half) 5 710937498 710937502 5 true 710937500
+    ∷ row (0 ∷ 1 ∷ 2 ∷ 3 ∷ 4 ∷ []) (five half) 4 660156248 753906252 4 false 710937500
+    ∷ []
+
+-- by the rule of document 01
+pub first : List Row
+first =
+    row (0 ∷ 1 ∷ 2 ∷ 3 ∷ 4 ∷ []) (five half) 5 710937499 710937502 5 true 710937500
     ∷ row (0 ∷ 1 ∷ 2 ∷ 3 ∷ 4 ∷ []) (five half) 4 589843749 777343751 4 false 710937500
     ∷ []
 
-pub examples : every right rows ≡ true
-unfolding right same rows row link triangle half four five treeOf grown run leaves nextAt without deleteAt lowest firstPair places firstAt exact sum lastOfEach connected every label merge quotient product parallel either series factor split
+-- the rows of the paper stand by either choice
+pub examples : (every (right chosen) rows && every (right firstLink) rows && every (right chosen) thickest && every (right firstLink) first) ≡ true
+unfolding right same rows thickest first row link triangle half four five treeOf grown run largestSum largest degree leaves nextAt without deleteAt lowest firstPair places firstAt exact sum lastOfEach connected every label merge quotient product parallel either series factor split
 examples = refl

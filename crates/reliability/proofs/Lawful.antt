@@ -1,15 +1,17 @@
 -- What is asked of a rule, whatever its networks are, so that its figures enclose the exact sum.
-use Prim.Native.Nat.{ℕ, suc, _+_, _-_, _*_, _^_, _≤_, _<_}
+use Prim.Native.Nat.{ℕ, suc, _+_, _-_, _*_, _^_, _≤_, _<_, min}
 use mathlib.Core.Path.{_≡_}
 use mathlib.Core.List.{List, [], map, List·Memᴰ}
-use mathlib.Core.Bool.{true}
+use mathlib.Core.Bool.{Bool, true, false, cond}
+use mathlib.Core.Logic.{_⊎_}
+use native.Mathlib.Omega.{arith}
 use lib.ListN.{length}
 use Rattle.rounding.specs.Rounding.{S}
 use Rattle.rounding.specs.declared.Direction.{Direction}
 use Rattle.reliability.specs.declared.Link.{Link}
 use Rattle.reliability.specs.Networks.{value}
 use Rattle.reliability.specs.Exact.{weighted, sum}
-use Rattle.reliability.specs.Rule.{Remainder, settled, rest, scaled, branches}
+use Rattle.reliability.specs.Rule.{Remainder, settled, rest, scaled, branches, Tree, fork, grown, isSplit, treeOf}
 use Rattle.reliability.proofs.Within.{Within}
 
 -- what is left has the property P, and its factors and values are at most S
@@ -18,6 +20,10 @@ Leaves P (settled k) = k ≤ S
 Leaves P (rest g) = P g
 Leaves P (scaled k g) = P g × ((d : Direction) → k d ≤ S)
 Leaves P (branches e sound broken) = P sound × P broken × ((d : Direction) → value d e ≤ S)
+
+-- what is left is the same for every place, or for every place it is two branches
+abbrev pub Uniform : {N : Type 0} → (ℕ → Remainder N) → Type 0
+Uniform {N} x = ((r : Remainder N) × ((i : ℕ) → x i ≡ r)) ⊎ ((i : ℕ) → (e : Link) × (s : N) × (b : N) × (x i ≡ branches e s b))
 
 -- the sum over the sets of the links es that connect the nodes vs, at one direction's values
 abbrev pub over : Direction → List ℕ → List Link → ℕ
@@ -64,6 +70,7 @@ module _ {N : Type 0} (Valid : N → Type 0) (μ : View N) where
 
   -- step i g is what is left of g where a split is on the link at place i
   pub record Lawful (step : ℕ → N → Remainder N) : Type 0 where
+    pub uniform : (g : N) → Uniform (λ i. step i g)
     pub values : (g : N) → Valid g → Valued (μ .links g)
     -- each step takes a link away
     pub left : (m : ℕ) (g : N) → Sized (suc m) g → (i : ℕ) → Place μ g i → Leaves (Sized m) (step i g)
@@ -75,3 +82,14 @@ module _ {N : Type 0} (Valid : N → Type 0) (μ : View N) where
 -- a choice of a link, where there is one
 abbrev pub Choice : {N : Type 0} → View N → (N → ℕ) → Type 0
 Choice {N} μ choose = (g : N) → Place μ g (choose g)
+
+-- what holds of the work at each place, and of a split that is still to take if it holds of the work once it is taken, holds of the tree
+module _ {N : Type 0} (Valid : N → Type 0) (μ : View N) (step : ℕ → N → Remainder N) (choose : N → ℕ) (choice : Choice μ choose) where
+  pub of-tree : (P : Tree → Type 0) (m : ℕ) (g : N) → Sized Valid μ (suc m) g → ((work : ℕ → Tree) → ((i : ℕ) → P (work i)) → P (fork (choose g) work))
+      → ((i : ℕ) → Place μ g i → P (grown (treeOf step choose m) i (step i g))) → P (treeOf step choose (suc m) g)
+  unfolding treeOf
+  of-tree P m g h split at = go (isSplit (step (choose g) g))
+    where
+      go : (c : Bool) → P (cond c (fork (choose g) (λ i. grown (treeOf step choose m) (min i m) (step (min i m) g))) (grown (treeOf step choose m) (choose g) (step (choose g) g)))
+      go true = split (λ i. grown (treeOf step choose m) (min i m) (step (min i m) g)) (λ i. at (min i m) (λ here. omega (arith, h .size)))
+      go false = at (choose g) (choice g)

@@ -7,6 +7,7 @@ pub mod Validity
 pub mod Within
 pub mod Lawful
 pub mod Runs
+pub mod LargestSum
 pub mod Steps
 pub mod Reductions
 pub mod Remainders

@@ -42,17 +42,16 @@ pub steps : (t : Tree) (l : ℕ) → run t l .steps ≡ min (splits t) l
 unfolding run splits
 steps (ready k) l = omega arith
 steps (multiplied k t) l = steps t l
-steps (fork i e s b) zero = omega arith
-steps (fork i e s b) (suc l) = omega (arith, steps s l, steps b (l - run s l .steps))
+steps (fork i w) zero = omega arith
+steps (fork i w) (suc l) = omega (arith, steps (w i) l)
 steps (taken i e s b) l = omega (arith, steps s l, steps b (l - run s l .steps))
 
 pub finished : (t : Tree) (l : ℕ) → run t l .finished ≡ leb (splits t) l
 unfolding run splits
 finished (ready k) l = sym (leb·zero l)
 finished (multiplied k t) l = finished t l
-finished (fork i e s b) zero = sym (leb·suc-zero (splits s + splits b))
-finished (fork i e s b) (suc l) =
-    rw (finished s l, finished b (l - run s l .steps), steps s l, leb·suc-suc) (enough (splits s) (splits b) l)
+finished (fork i w) zero = sym (leb·suc-zero (splits (w i)))
+finished (fork i w) (suc l) = finished (w i) l ∙ sym (leb·suc-suc (splits (w i)) l)
 finished (taken i e s b) l = rw (finished s l, finished b (l - run s l .steps), steps s l) (enough (splits s) (splits b) l)
 
 -- ---- ranges and nesting
@@ -61,7 +60,7 @@ finished (taken i e s b) l = rw (finished s l, finished b (l - run s l .steps), 
 abbrev pub Ranged : Tree → Type 0
 Ranged (ready k) = (d : Direction) → k d ≤ S
 Ranged (multiplied k t) = ((d : Direction) → k d ≤ S) × Ranged t
-Ranged (fork i e s b) = ((d : Direction) → value d e ≤ S) × Ranged s × Ranged b
+Ranged (fork i w) = (j : ℕ) → Ranged (w j)
 Ranged (taken i e s b) = ((d : Direction) → value d e ≤ S) × Ranged s × Ranged b
 
 pub side-stepped : (d : Direction) (f : Figure) → side d (stepped f) ≡ side d f
@@ -77,10 +76,9 @@ pub range : (t : Tree) → Ranged t → (d : Direction) (l : ℕ) → side d (ru
 unfolding run
 range (ready k) h d l = rw side-bounded (h d)
 range (multiplied k t) h d l = rw side-bounded (product-range d (k d) (side d (run t l)) (h .0 d) (range t (h .1) d l))
-range (fork i e s b) h Down zero = zero-le
-range (fork i e s b) h Up zero = omega arith
-range (fork i e s b) h d (suc l) =
-    rw (side-stepped, side-bounded) (split-range d (value d e) (side d (run s l)) (side d (run b (l - run s l .steps))) (h .0 d) (range s (h .1) d l) (range b (h .2) d (l - run s l .steps)))
+range (fork i w) h Down zero = zero-le
+range (fork i w) h Up zero = omega arith
+range (fork i w) h d (suc l) = rw side-stepped (range (w i) (h i) d l)
 range (taken i e s b) h d l =
     rw side-bounded (split-range d (value d e) (side d (run s l)) (side d (run b (l - run s l .steps))) (h .0 d) (range s (h .1) d l) (range b (h .2) d (l - run s l .steps)))
 
@@ -90,12 +88,9 @@ unfolding run
 nested (ready k) h d l l′ i = bounds-refl d (side d (run (ready k) l))
 nested (multiplied k t) h d l l′ i =
     simp side-bounded (bounds-map d (product d) (λ x x′ y y′. product-monotone d) (bounds-refl d (k d)) (nested t (h .1) d l l′ i))
-nested (fork j e s b) h d zero l′ i = widest d (side d (run (fork j e s b) l′)) (range (fork j e s b) h d l′)
-nested (fork j e s b) h d (suc l) zero i = absurd (not-suc-le-zero i)
-nested (fork j e s b) h d (suc l) (suc l′) i =
-    simp (side-stepped, side-bounded)
-    (bounds-map d (split d (value d e)) (λ x x′ y y′. split-monotone d (value d e)) (nested s (h .1) d l l′ (le-of-suc-le-suc i))
-    (nested b (h .2) d (l - run s l .steps) (l′ - run s l′ .steps) (omega (arith, steps s l, steps s l′))))
+nested (fork j w) h d zero l′ i = widest d (side d (run (fork j w) l′)) (range (fork j w) h d l′)
+nested (fork j w) h d (suc l) zero i = absurd (not-suc-le-zero i)
+nested (fork j w) h d (suc l) (suc l′) i = simp side-stepped (nested (w j) (h j) d l l′ (le-of-suc-le-suc i))
 nested (taken j e s b) h d l l′ i =
     simp side-bounded
     (bounds-map d (split d (value d e)) (λ x x′ y y′. split-monotone d (value d e)) (nested s (h .1) d l l′ i)
@@ -125,6 +120,6 @@ pub stays : (t : Tree) (l k : ℕ) → run t l .finished ≡ true → run t (l +
 unfolding run
 stays (ready c) l k h = refl
 stays (multiplied c t) l k h = ap (times c) (stays t l k h)
-stays (fork i e s b) zero k h = absurd (false≢true h)
-stays (fork i e s b) (suc l) k h = rw suc-add (ap stepped (in-turn-stays e s b l k h (stays s l k) (stays b (l - run s l .steps) k)))
+stays (fork i w) zero k h = absurd (false≢true h)
+stays (fork i w) (suc l) k h = rw suc-add (ap stepped (stays (w i) l k h))
 stays (taken i e s b) l k h = in-turn-stays e s b l k h (stays s l k) (stays b (l - run s l .steps) k)

@@ -14,11 +14,12 @@ use Rattle.reliability.specs.declared.Link.{Link}
 use Rattle.reliability.specs.declared.Step.{Step}
 use Rattle.reliability.specs.declared.Step.the-variants.{OneNode, Disconnected, Loop, Parallel, End, Series, Split}
 use Rattle.reliability.specs.Networks.{Network, Ascending, Valid, ends, linkAt, label, every, connected, piecesOf}
-use Rattle.reliability.specs.Rule.{isLoop, touches, alike, firstAt, firstPair, places, lowest, endOf, seriesOf, when, _otherwise_, nextAt, chosen, next, deleteAt, across}
+use Rattle.reliability.specs.Rule.{isLoop, touches, alike, firstAt, firstPair, places, lowest, endOf, seriesOf, when, _otherwise_, nextAt, firstLink, chosen, next, deleteAt, deleted, contracted, across, leaves, stepAt}
 use Rattle.reliability.proofs.Lists.{or-true, getD-mem}
 use Rattle.reliability.proofs.Pieces.{one-piece}
-use Rattle.reliability.proofs.Lawful.{View, Place}
+use Rattle.reliability.proofs.Lawful.{Uniform, View, Place}
 use Rattle.reliability.proofs.Searches.{Answers, Holds, Fails, first-at, Placed, Pair, Distinct, first-pair, lowest-of}
+use Rattle.reliability.proofs.LargestSum.{at-largest}
 use Rattle.reliability.proofs.States.{Joins, Off}
 
 -- e joins v to another node
@@ -218,12 +219,18 @@ module _ (i : ℕ) (g : Network) where
       go true o = by-pieces true o
       go false o = by-pieces false o ∙ ap (first false) (sym (whole-by g o _ refl))
 
--- the choice of document 01
-pub first-link : (g : Network) → Place view g (chosen g)
+-- ---- the choice of the link to split on
+
+-- document 01's choice names a link
+pub first-link : (g : Network) → Place view g (firstLink g)
 first-link g here = here
 
+-- so does the rule's
+pub chosen-link : (g : Network) → Place view g (chosen g)
+chosen-link g here = at-largest g here .place
+
 pub fits : (g : Network) → Valid g → Fits g (next g)
-fits g valid = fits-at g valid (chosen g) (first-link g)
+fits g valid = fits-at g valid (chosen g) (chosen-link g)
 
 -- ---- the place of a split
 
@@ -273,15 +280,49 @@ series-other c v (i ∷ []) = tt
 series-other c v (i ∷ (j ∷ [])) = refl
 series-other c v (i ∷ (j ∷ (k ∷ r))) = tt
 
--- step 7 splits at the chosen place
-pub split-chosen : (g : Network) (j : ℕ) → next g ≡ Split j → j ≡ chosen g
+-- step 7 splits at the given place
+pub split-there : (i : ℕ) (g : Network) (j : ℕ) → nextAt i g ≡ Split j → j ≡ i
 unfolding nextAt
-split-chosen g j e =
-    let c = chosen g in
-    sym (ap (splitAt c) e)
-    ∙ other-first c (Option·map Loop (firstAt isLoop (g .links))) _ (other-map c Loop (λ i. refl) (firstAt isLoop (g .links)))
-    (other-first c (when (leb (length (g .nodes)) 1) OneNode) _ (other-when c (leb (length (g .nodes)) 1) OneNode refl)
-    (other-first c (when (not (eqb (piecesOf g) 1)) Disconnected) _ (other-when c (not (eqb (piecesOf g) 1)) Disconnected refl)
-    (other-first c (Option·map (λ ij. Parallel (ij .0) (ij .1)) (firstPair (g .links))) _ (other-map c (λ (ij : ℕ × ℕ). Parallel (ij .0) (ij .1)) (λ ij. refl) (firstPair (g .links)))
-    (other-first c (lowest endOf (g .links) (g .nodes)) _ (other-lowest c endOf (end-other c) (g .links) (g .nodes))
-    (other-first c (lowest seriesOf (g .links) (g .nodes)) (Split c) (other-lowest c seriesOf (series-other c) (g .links) (g .nodes)) refl)))))
+split-there i g j e =
+    sym (ap (splitAt i) e)
+    ∙ other-first i (Option·map Loop (firstAt isLoop (g .links))) _ (other-map i Loop (λ k. refl) (firstAt isLoop (g .links)))
+    (other-first i (when (leb (length (g .nodes)) 1) OneNode) _ (other-when i (leb (length (g .nodes)) 1) OneNode refl)
+    (other-first i (when (not (eqb (piecesOf g) 1)) Disconnected) _ (other-when i (not (eqb (piecesOf g) 1)) Disconnected refl)
+    (other-first i (Option·map (λ ij. Parallel (ij .0) (ij .1)) (firstPair (g .links))) _ (other-map i (λ (ij : ℕ × ℕ). Parallel (ij .0) (ij .1)) (λ ij. refl) (firstPair (g .links)))
+    (other-first i (lowest endOf (g .links) (g .nodes)) _ (other-lowest i endOf (end-other i) (g .links) (g .nodes))
+    (other-first i (lowest seriesOf (g .links) (g .nodes)) (Split i) (other-lowest i seriesOf (series-other i) (g .links) (g .nodes)) refl)))))
+
+-- a step by the place of a split: one and the same for every place, or the split there
+abbrev UniformStep : (ℕ → Step) → Type 0
+UniformStep x = ((s : Step) × ((i : ℕ) → x i ≡ s)) ⊎ ((i : ℕ) → x i ≡ Split i)
+
+uniform-otherwise : (o : Option Step) (x : ℕ → Step) → UniformStep x → UniformStep (λ i. o otherwise x i)
+uniform-otherwise (some s) x u = inl (s, λ i. refl)
+uniform-otherwise none x u = u
+
+uniform-next : (g : Network) → UniformStep (λ i. nextAt i g)
+unfolding nextAt
+uniform-next g =
+    uniform-otherwise (Option·map Loop (firstAt isLoop (g .links))) _
+    (uniform-otherwise (when (leb (length (g .nodes)) 1) OneNode) _
+    (uniform-otherwise (when (not (eqb (piecesOf g) 1)) Disconnected) _
+    (uniform-otherwise (Option·map (λ ij. Parallel (ij .0) (ij .1)) (firstPair (g .links))) _
+    (uniform-otherwise (lowest endOf (g .links) (g .nodes)) _ (uniform-otherwise (lowest seriesOf (g .links) (g .nodes)) _ (inr (λ i. refl)))))))
+
+pub uniform : (g : Network) → Uniform (λ i. stepAt i g)
+unfolding leaves
+uniform g = go (uniform-next g)
+  where
+    go : UniformStep (λ i. nextAt i g) → Uniform (λ i. stepAt i g)
+    go (inl u) = inl (leaves g (u .0), λ i. ap (leaves g) (u .1 i))
+    go (inr u) = inr (λ i. (linkAt g i, contracted (linkAt g i) (deleted i g), deleted i g, ap (leaves g) (u i)))
+
+-- where step 7 fits, it fits at every place
+pub split-anywhere : (g : Network) (i j : ℕ) → nextAt i g ≡ Split j → (k : ℕ) → nextAt k g ≡ Split k
+split-anywhere g i j e k = go (uniform-next g)
+  where
+    go : UniformStep (λ n. nextAt n g) → nextAt k g ≡ Split k
+    go (inr u) = u k
+    go (inl u) =
+        let here : (n : ℕ) → nextAt n g ≡ Split j = λ n. u .1 n ∙ sym (u .1 i) ∙ e in
+        absurd (omega (arith, split-there 0 g j (here 0), split-there 1 g j (here 1)))

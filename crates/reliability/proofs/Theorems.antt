@@ -13,7 +13,7 @@ use Rattle.reliability.specs.Networks.{Network, Valid}
 use Rattle.reliability.specs.Exact.{Weighted, weighted, sum, total, exact, AllEnclosed, altogether, Equal}
 use Rattle.reliability.specs.Rule.{chosen, stepAt, tree, figure, needed, budget}
 use Rattle.reliability.proofs.Runs.{steps, finished}
-use Rattle.reliability.proofs.Steps.{view, first-link}
+use Rattle.reliability.proofs.Steps.{view, chosen-link}
 use Rattle.reliability.proofs.Reductions.{total-is}
 use Rattle.reliability.proofs.Enclosure.{lawful}
 use Rattle.reliability.proofs.Weights.{Near, gaps, low-enclosed, no-units}
@@ -39,26 +39,26 @@ module _ (g : Network) (limit : ℕ) where
 module _ (g : Network) (valid : Valid g) (limit : ℕ) where
   -- demand 3: with a larger limit the pair lies within the smaller limit's
   pub nesting : (larger : ℕ) → limit ≤ larger → (figure g limit .low ≤ figure g larger .low) × (figure g larger .high ≤ figure g limit .high)
-  nesting = rule.nesting Valid view stepAt lawful chosen first-link g valid limit
+  nesting = rule.nesting Valid view stepAt lawful chosen chosen-link g valid limit
 
   pub high-range : figure g limit .high ≤ S
-  high-range = rule.figure-range Valid view stepAt lawful chosen first-link g valid limit Up
+  high-range = rule.figure-range Valid view stepAt lawful chosen chosen-link g valid limit Up
 
   pub low-high : figure g limit .low ≤ figure g limit .high
-  low-high = rule.low-high Valid view stepAt lawful chosen first-link g valid limit
+  low-high = rule.low-high Valid view stepAt lawful chosen chosen-link g valid limit
 
   -- for any exact weights that the links' values enclose, each off by at most its own units
   module _ {cs : List ℕ} {ws : List Weighted} (h : AllEnclosed cs (g .links) ws) where
     pub near-exact : (d : Direction) → Near d (budget (length (g .links)) (length (g .nodes)) + altogether cs) (total ws) (sum (g .nodes) ws []) (figure g limit)
-    near-exact = rule.near-exact Valid view stepAt lawful chosen first-link g valid limit h
+    near-exact = rule.near-exact Valid view stepAt lawful chosen chosen-link g valid limit h
 
     -- demand 2
     pub enclosure : (figure g limit .low * total ws ≤ S * sum (g .nodes) ws []) × (S * sum (g .nodes) ws [] ≤ figure g limit .high * total ws)
-    enclosure = rule.enclosure Valid view stepAt lawful chosen first-link g valid limit h
+    enclosure = rule.enclosure Valid view stepAt lawful chosen chosen-link g valid limit h
 
     -- demand 3: a finished pair is at most 2m + 4n wide, and twice the links' own units
     pub width : figure g limit .finished ≡ true → figure g limit .high ≤ figure g limit .low + (2 * length (g .links) + 4 * length (g .nodes) + 2 * altogether cs)
-    width = rule.width Valid view stepAt lawful chosen first-link g valid limit h
+    width = rule.width Valid view stepAt lawful chosen chosen-link g valid limit h
 
   -- demand 2, at the low values, which a plan's values are: low × S^m ≤ S × N ≤ high × S^m
   pub enclosure-of-lows : (figure g limit .low * S ^ length (g .links) ≤ S * exact Down g) × (S * exact Down g ≤ figure g limit .high * S ^ length (g .links))

@@ -1,16 +1,18 @@
 -- The work by what the step that fits leaves, and what is known of its figure.
-use Prim.Native.Nat.{ℕ, zero, suc, _-_, _≤_, _<_}
-use mathlib.Core.Path.{_≡_, refl, sym, ap, ap₂, _∙_}
+use Prim.Native.Nat.{ℕ, zero, suc, _-_, _≤_, _<_, min}
+use mathlib.Core.Path.{_≡_, refl, sym, ap, ap₂, _∙_, subst}
+use mathlib.Core.Bool.{false, cond, true≢false}
 use native.Mathlib.Omega.{arith}
 use lib.ListN.{length}
 use Rattle.rounding.specs.Rounding.{S}
 use Rattle.rounding.specs.declared.Direction.{Direction}
 use Rattle.reliability.specs.declared.Link.{Link}
-use Rattle.reliability.specs.Networks.{Network, Valid}
-use Rattle.reliability.specs.Rule.{Remainder, settled, rest, scaled, branches, chosen, next, leaves, stepAt, Tree, ready, multiplied, fork, grown, treeOf, tree, side, figure}
-use Rattle.reliability.proofs.Lawful.{Leaves, View, Sized, Lawful, Choice}
+use Rattle.reliability.specs.declared.Step.the-variants.{Split}
+use Rattle.reliability.specs.Networks.{Network, Valid, linkAt}
+use Rattle.reliability.specs.Rule.{Remainder, settled, rest, scaled, branches, nextAt, chosen, next, deleted, contracted, leaves, stepAt, Tree, ready, multiplied, fork, taken, grown, isSplit, treeOf, tree, side, figure}
+use Rattle.reliability.proofs.Lawful.{Leaves, View, Place, Sized, Lawful, Choice}
 use Rattle.reliability.proofs.Runs.{steps, range}
-use Rattle.reliability.proofs.Steps.{view, first-link}
+use Rattle.reliability.proofs.Steps.{view, chosen-link, split-anywhere}
 use Rattle.reliability.proofs.Remainders.{SizedNetwork}
 use Rattle.reliability.proofs.Enclosure.{lawful, ranged}
 
@@ -28,20 +30,39 @@ module _ {N : Type 0} (Valid : N → Type 0) (μ : View N) (step : ℕ → N →
   grown-alike m i (settled k) l = refl
   grown-alike m i (rest h) l = same-size m h l
   grown-alike m i (scaled k h) l = ap (multiplied k) (same-size m h (l .0))
-  grown-alike m i (branches e x y) l = ap₂ (fork i e) (same-size m x (l .0)) (same-size m y (l .1))
+  grown-alike m i (branches e x y) l = ap₂ (taken i e) (same-size m x (l .0)) (same-size m y (l .1))
+
+  -- the work at place i
+  abbrev at : N → ℕ → Tree
+  at g i = grown of i (step i g)
+
+  -- a split is still to take; at a place past the last it is taken at the last
+  abbrev forked : ℕ → N → Tree
+  forked m g = cond (isSplit (step (choose g) g)) (fork (choose g) (λ i. at g (min i m))) (at g (choose g))
 
   -- the tree is grown from the trees of what the step leaves
-  pub unrolled : (g : N) → Valid g → of g ≡ grown of (choose g) (step (choose g) g)
-  unfolding treeOf grown
-  unrolled g valid = go (length (μ .links g)) refl
-    where
-      go : (m : ℕ) → length (μ .links g) ≡ m → treeOf step choose m g ≡ grown of (choose g) (step (choose g) g)
-      go zero e =
-          let s = lawful .none-left g (record { valid = valid; size = e }) (choose g) .2 in
-          ap (grown (λ h. ready (λ d. 0)) (choose g)) s ∙ sym (ap (grown of (choose g)) s)
-      go (suc m) e = grown-alike m (choose g) (step (choose g) g) (lawful .left m g (record { valid = valid; size = e }) (choose g) (choice g))
+  pub unrolled : (m : ℕ) (g : N) → Sized Valid μ (suc m) g → of g ≡ forked m g
+  unfolding treeOf
+  unrolled m g h =
+      let work : (i : ℕ) → Place μ g i → grown (treeOf step choose m) i (step i g) ≡ at g i = λ i here. grown-alike m i (step i g) (lawful .left m g h i here) in
+      sym (same-size (suc m) g h)
+      ∙ ap₂ (λ w t. cond (isSplit (step (choose g) g)) (fork (choose g) w) t) (λ j i. work (min i m) (λ here. omega (arith, h .size)) j) (work (choose g) (choice g))
 
--- ---- the rule of document 01
+  unrolled-none : (g : N) → Sized Valid μ 0 g → of g ≡ at g (choose g)
+  unfolding treeOf grown
+  unrolled-none g h =
+      let s = lawful .none-left g h (choose g) .2 in
+      sym (same-size 0 g h) ∙ ap (grown (λ h. ready (λ d. 0)) (choose g)) s ∙ sym (ap (grown of (choose g)) s)
+
+  -- but for a split
+  pub unrolled-other : (g : N) → Valid g → isSplit (step (choose g) g) ≡ false → of g ≡ at g (choose g)
+  unrolled-other g valid other = go (length (μ .links g)) refl
+    where
+      go : (m : ℕ) → length (μ .links g) ≡ m → of g ≡ at g (choose g)
+      go zero e = unrolled-none g (record { valid = valid; size = e })
+      go (suc m) e = unrolled m g (record { valid = valid; size = e }) ∙ ap (λ c. cond c (fork (choose g) (λ i. at g (min i m))) (at g (choose g))) other
+
+-- ---- the rule
 
 -- a valid network with fewer links than g
 pub record Below (g h : Network) : Type 0 where
@@ -49,32 +70,48 @@ pub record Below (g h : Network) : Type 0 where
   pub fewer : length (h .links) < length (g .links)
 
 module _ (g : Network) (valid : Valid g) where
-  by-step : (r : Remainder Network) → leaves g (next g) ≡ r → tree g ≡ grown tree (chosen g) r
-  by-step r e = unrolled Valid view stepAt lawful chosen first-link g valid ∙ ap (grown tree (chosen g)) e
+  by-step : (r : Remainder Network) → isSplit r ≡ false → leaves g (next g) ≡ r → tree g ≡ grown tree (chosen g) r
+  by-step r other e = unrolled-other Valid view stepAt lawful chosen chosen-link g valid (ap isSplit e ∙ other) ∙ ap (grown tree (chosen g)) e
 
   pub tree-settled : (k : ℕ) → leaves g (next g) ≡ settled k → tree g ≡ ready (λ d. k)
   unfolding grown
-  tree-settled k e = by-step (settled k) e
+  tree-settled k e = by-step (settled k) refl e
 
   pub tree-rest : (h : Network) → leaves g (next g) ≡ rest h → tree g ≡ tree h
   unfolding grown
-  tree-rest h e = by-step (rest h) e
+  tree-rest h e = by-step (rest h) refl e
 
   pub tree-scaled : (k : Direction → ℕ) (h : Network) → leaves g (next g) ≡ scaled k h → tree g ≡ multiplied k (tree h)
   unfolding grown
-  tree-scaled k h e = by-step (scaled k h) e
+  tree-scaled k h e = by-step (scaled k h) refl e
 
-  pub tree-branches : (e : Link) (s b : Network) → leaves g (next g) ≡ branches e s b → tree g ≡ fork (chosen g) e (tree s) (tree b)
-  unfolding grown
-  tree-branches e s b h = by-step (branches e s b) h
+  -- the work once a split is taken at place i
+  abbrev pub workAt : ℕ → Tree
+  workAt i = taken i (linkAt g i) (tree (contracted (linkAt g i) (deleted i g))) (tree (deleted i g))
+
+  -- a split, still to take: it may be taken at each place
+  pub tree-split : (c : ℕ) → next g ≡ Split c → tree g ≡ fork (chosen g) (λ i. workAt (min i (length (g .links) - 1)))
+  unfolding grown leaves
+  tree-split c e = go (length (g .links)) refl
+    where
+      there : (i : ℕ) → nextAt i g ≡ Split i
+      there = split-anywhere g (chosen g) c e
+
+      go : (m : ℕ) → length (g .links) ≡ m → tree g ≡ fork (chosen g) (λ i. workAt (min i (m - 1)))
+      go zero n = absurd (let k = lawful .none-left g (record { valid = valid; size = n }) (chosen g) in true≢false (ap isSplit (sym (ap (leaves g) (there (chosen g))) ∙ k .2)))
+      go (suc m) n =
+          unrolled Valid view stepAt lawful chosen chosen-link m g (record { valid = valid; size = n })
+          ∙ ap (λ r. cond (isSplit r) (fork (chosen g) (λ i. grown tree (min i m) (stepAt (min i m) g))) (grown tree (chosen g) (stepAt (chosen g) g))) (ap (leaves g) (there (chosen g)))
+          ∙ ap (fork (chosen g)) (λ j i. grown tree (min i m) (leaves g (there (min i m) j)))
+          ∙ ap (λ k. fork (chosen g) (λ i. workAt (min i k))) (let k : m ≡ suc m - 1 = omega arith in k)
+
+  less : (m : ℕ) → length (g .links) ≡ suc m → (h : Network) → SizedNetwork m h → Below g h
+  less m e h s = let k = s .size in record { valid = s .valid; fewer = omega arith }
 
   -- what is left
   remains : Leaves (Below g) (leaves g (next g))
   remains = go (length (g .links)) refl
     where
-      less : (m : ℕ) → length (g .links) ≡ suc m → (h : Network) → SizedNetwork m h → Below g h
-      less m e h s = let k = s .size in record { valid = s .valid; fewer = omega arith }
-
       known : (m : ℕ) → length (g .links) ≡ suc m → (r : Remainder Network) → Leaves (SizedNetwork m) r → Leaves (Below g) r
       known m e (settled k) l = l
       known m e (rest h) l = less m e h l
@@ -83,7 +120,7 @@ module _ (g : Network) (valid : Valid g) where
 
       go : (m : ℕ) → length (g .links) ≡ m → Leaves (Below g) (leaves g (next g))
       go zero e = let n = lawful .none-left g (record { valid = valid; size = e }) (chosen g) in rw (n .2) (n .1)
-      go (suc m) e = known m e (leaves g (next g)) (lawful .left m g (record { valid = valid; size = e }) (chosen g) (first-link g))
+      go (suc m) e = known m e (leaves g (next g)) (lawful .left m g (record { valid = valid; size = e }) (chosen g) (chosen-link g))
 
   pub below-rest : (h : Network) → leaves g (next g) ≡ rest h → Below g h
   below-rest h e = rw e at remains
@@ -91,15 +128,21 @@ module _ (g : Network) (valid : Valid g) where
   pub below-scaled : (k : Direction → ℕ) (h : Network) → leaves g (next g) ≡ scaled k h → Below g h
   below-scaled k h e = let l = rw e at remains in l .0
 
-  pub below-sound : (e : Link) (s b : Network) → leaves g (next g) ≡ branches e s b → Below g s
-  below-sound e s b h = let l = rw h at remains in l .0
-
-  pub below-broken : (e : Link) (s b : Network) → leaves g (next g) ≡ branches e s b → Below g b
-  below-broken e s b h = let l = rw h at remains in l .1
+  -- wherever a split is taken, its branches have fewer links
+  pub below-branches : (c : ℕ) → next g ≡ Split c → (i : ℕ) → i < length (g .links) → Below g (contracted (linkAt g i) (deleted i g)) × Below g (deleted i g)
+  unfolding leaves
+  below-branches c e i here = go (length (g .links)) refl
+    where
+      go : (m : ℕ) → length (g .links) ≡ m → Below g (contracted (linkAt g i) (deleted i g)) × Below g (deleted i g)
+      go zero n = absurd (omega arith)
+      go (suc m) n =
+          let s : SizedNetwork (suc m) g = record { valid = valid; size = n } in
+          let l = subst (Leaves (SizedNetwork m)) (ap (leaves g) (split-anywhere g (chosen g) c e i)) (lawful .left m g s i (λ _. here)) in
+          (less m n (contracted (linkAt g i) (deleted i g)) (l .0), less m n (deleted i g) (l .1))
 
 -- what is known of a figure: its range, its steps
 pub figure-range : (d : Direction) (g : Network) (limit : ℕ) → Valid g → side d (figure g limit) ≤ S
-figure-range d g limit valid = range (tree g) (ranged Valid view stepAt lawful chosen first-link (length (g .links)) g (record { valid = valid; size = refl })) d limit
+figure-range d g limit valid = range (tree g) (ranged Valid view stepAt lawful chosen chosen-link (length (g .links)) g (record { valid = valid; size = refl })) d limit
 
 pub figure-steps : (g : Network) (limit : ℕ) → Valid g → figure g limit .steps ≤ limit
 figure-steps g limit valid = omega (arith, steps (tree g) limit)

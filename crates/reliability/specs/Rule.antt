@@ -84,9 +84,32 @@ nextAt i g =
     otherwise lowest seriesOf (g .links) (g .nodes)  -- 6: series
     otherwise Split i  -- 7: split
 
--- step 7 splits on the first link
+-- ---- which link step 7 splits on
+
+-- the number of links at a node
+unfoldable pub degree : List Link → ℕ → ℕ
+degree es v = length (places (touches v) es)
+
+-- the link counts of a link's two ends, together
+abbrev pub degreeSum : List Link → Link → ℕ
+degreeSum es e = degree es (e .a) + degree es (e .b)
+
+unfoldable pub largest : (Link → ℕ) → List Link → ℕ
+largest sum [] = 0
+largest sum (e ∷ es) = max (sum e) (largest sum es)
+
+-- the link whose two ends' link counts have the largest sum; the earliest such link wins
+unfoldable pub largestSum : Network → ℕ
+largestSum g =
+    let sum = degreeSum (g .links) in
+    elim (firstAt (λ e. eqb (sum e) (largest sum (g .links))) (g .links)) [ some i ↦ i | none ↦ 0 ]
+
+-- document 01's choice, by which older work was set aside: the first link
+abbrev pub firstLink : Network → ℕ
+firstLink g = 0
+
 abbrev pub chosen : Network → ℕ
-chosen g = 0
+chosen g = largestSum g
 
 abbrev pub next : Network → Step
 next g = nextAt (chosen g) g
@@ -165,29 +188,41 @@ stepAt i g = leaves g (nextAt i g)
 
 -- ---- the work of a network
 
--- the work of a network as a tree: its figures, a factor and the work that it multiplies,
--- or a split on a link, at its place, and the work of the sound and of the broken branch; a split is still to take, or it is taken
+-- the work of a network as a tree: its figures; a factor and the work that it multiplies; a split that is still to take, at the chosen
+-- place, and the work once it is taken at each place; or a split that is taken, its place, its link, and the work of its sound and its broken branch
 pub data Tree : Type 0 where
   ready : (Direction → ℕ) → Tree
   multiplied : (Direction → ℕ) → Tree → Tree
-  fork : ℕ → Link → Tree → Tree → Tree
+  fork : ℕ → (ℕ → Tree) → Tree
   taken : ℕ → Link → Tree → Tree → Tree
 
--- the tree of what is left, each part of it grown by `grow`; a split is on the link at place i
+-- the work of what is left, each part of it grown by `grow`, where a split is taken on the link at place i
 unfoldable pub grown : {N : Type 0} → (N → Tree) → ℕ → Remainder N → Tree
 grown grow i (settled k) = ready (λ d. k)
 grown grow i (rest g) = grow g
 grown grow i (scaled k g) = multiplied k (grow g)
-grown grow i (branches e sound broken) = fork i e (grow sound) (grow broken)
+grown grow i (branches e sound broken) = taken i e (grow sound) (grow broken)
+
+abbrev pub isSplit : {N : Type 0} → Remainder N → Bool
+isSplit (settled k) = false
+isSplit (rest g) = false
+isSplit (scaled k g) = false
+isSplit (branches e sound broken) = true
 
 -- the tree of a network of m links, by what each step leaves and by the choice of the link to split on:
--- each step leaves one link less, and a network without links is settled
+-- each step leaves one link less, and a network without links is settled; the last place is m, where there is one link more
 unfoldable pub treeOf : {N : Type 0} → (ℕ → N → Remainder N) → (N → ℕ) → ℕ → N → Tree
 treeOf step choose zero g = grown (λ h. ready (λ d. 0)) (choose g) (step (choose g) g)
-treeOf step choose (suc m) g = grown (treeOf step choose m) (choose g) (step (choose g) g)
+treeOf step choose (suc m) g =
+    let work : ℕ → Tree = λ i. grown (treeOf step choose m) i (step i g) in
+    cond (isSplit (step (choose g) g)) (fork (choose g) (λ i. work (min i m))) (work (choose g))
+
+-- the work of a network by a choice of the link to split on
+abbrev pub treeBy : (Network → ℕ) → Network → Tree
+treeBy choose g = treeOf stepAt choose (length (g .links)) g
 
 abbrev pub tree : Network → Tree
-tree g = treeOf stepAt chosen (length (g .links)) g
+tree g = treeBy chosen g
 
 -- ---- the figure under a limit
 
@@ -227,12 +262,12 @@ unfinished = record { low = 0; high = S; steps = 0; finished = false }
 abbrev pub inTurn : Link → (ℕ → Figure) → (ℕ → Figure) → ℕ → Figure
 inTurn e sound broken limit = let s = sound limit in mixed e s (broken (limit - s .steps))
 
--- a split that is taken takes no step any more
+-- a split takes one step, and none once it is taken
 unfoldable pub run : Tree → ℕ → Figure
 run (ready k) limit = bounded k 0 true
 run (multiplied k t) limit = times k (run t limit)
-run (fork i e sound broken) zero = unfinished
-run (fork i e sound broken) (suc limit) = stepped (inTurn e (run sound) (run broken) limit)
+run (fork i work) zero = unfinished
+run (fork i work) (suc limit) = stepped (run (work i) limit)
 run (taken i e sound broken) limit = inTurn e (run sound) (run broken) limit
 
 abbrev pub figure : Network → ℕ → Figure
@@ -243,7 +278,7 @@ figure g limit = run (tree g) limit
 unfoldable pub splits : Tree → ℕ
 splits (ready k) = 0
 splits (multiplied k t) = splits t
-splits (fork i e sound broken) = suc (splits sound + splits broken)
+splits (fork i work) = suc (splits (work i))
 splits (taken i e sound broken) = splits sound + splits broken
 
 abbrev pub needed : Network → ℕ

@@ -1,7 +1,7 @@
 -- Sittings: a long run is set aside and carried on.
 use Prim.Native.Nat.{ℕ, zero, suc, _-_, min}
 use mathlib.Core.List.{List, [], _∷_}
-use mathlib.Core.Bool.{Bool, true, false, _&&_}
+use mathlib.Core.Bool.{Bool, true, false, _&&_, _||_}
 use lib.Dec.{eqb}
 use Rattle.rounding.specs.declared.Direction.{Direction}
 use Rattle.reliability.specs.declared.Figure.{Figure}
@@ -13,6 +13,10 @@ use Rattle.reliability.specs.Rule.{side, more, Tree, ready, multiplied, fork, t
 pub data Open : Type 0 where
   running : ℕ → Open
   known : ℕ → (Direction → ℕ) → Open
+
+abbrev pub placeOf : Open → ℕ
+placeOf (running i) = i
+placeOf (known i k) = i
 
 -- the low and the high of a figure
 abbrev pub sides : Figure → Direction → ℕ
@@ -26,8 +30,8 @@ opened i s sound broken = elim (s .finished) [ true ↦ known i (sides s) ∷ br
 unfoldable pub opens : Tree → ℕ → List Open
 opens (ready k) limit = []
 opens (multiplied k t) limit = opens t limit
-opens (fork i e s b) zero = []
-opens (fork i e s b) (suc limit) = opened i (run s limit) (opens s limit) (opens b (limit - run s limit .steps))
+opens (fork i work) zero = []
+opens (fork i work) (suc limit) = opens (work i) limit
 opens (taken i e s b) limit = opened i (run s limit) (opens s limit) (opens b (limit - run s limit .steps))
 
 -- what a run sets aside: nothing where it is finished
@@ -36,23 +40,21 @@ aside t limit = elim (run t limit .finished) [ true ↦ [] | false ↦ opens t l
 
 -- ---- work put back
 
--- the work with its open splits taken, outermost first; a sound branch whose figures are known is not worked again
+-- the work with its open splits taken, outermost first, each at its own place; a sound branch whose figures are known is not worked again
 unfoldable pub resumed : Tree → List Open → Tree
 resumed t [] = t
 resumed (ready k) (o ∷ os) = ready k
 resumed (multiplied k t) (o ∷ os) = multiplied k (resumed t (o ∷ os))
-resumed (fork i e s b) (running j ∷ os) = taken i e (resumed s os) b
-resumed (fork i e s b) (known j k ∷ os) = taken i e (ready k) (resumed b os)
+resumed (fork i work) (o ∷ os) = resumed (work (placeOf o)) (o ∷ os)
 resumed (taken i e s b) (running j ∷ os) = taken i e (resumed s os) b
 resumed (taken i e s b) (known j k ∷ os) = taken i e (ready k) (resumed b os)
 
--- check 11: each open split is a split of this work, at its place; the next lies in the sound branch while that runs, else in the broken one
+-- check 11: each open split is a split of this work, on the first link or on the chosen one; the next lies in the sound branch while that runs, else in the broken one
 unfoldable pub traced : Tree → List Open → Bool
 traced t [] = true
 traced (ready k) (o ∷ os) = false
 traced (multiplied k t) (o ∷ os) = traced t (o ∷ os)
-traced (fork i e s b) (running j ∷ os) = eqb j i && traced s os
-traced (fork i e s b) (known j k ∷ os) = eqb j i && traced b os
+traced (fork i work) (o ∷ os) = (eqb (placeOf o) 0 || eqb (placeOf o) i) && traced (work (placeOf o)) (o ∷ os)
 traced (taken i e s b) (running j ∷ os) = eqb j i && traced s os
 traced (taken i e s b) (known j k ∷ os) = eqb j i && traced b os
 

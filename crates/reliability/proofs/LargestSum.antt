@@ -1,0 +1,89 @@
+-- The chosen link is one of the links, its sum is the largest, and every earlier one's is smaller.
+use Prim.Native.Nat.{ℕ, zero, suc, _≤_, _<_}
+use mathlib.Core.Path.{_≡_, refl, ap}
+use mathlib.Core.List.{List, [], _∷_, List·Memᴰ, List·Memᴰ·head, List·Memᴰ·tail}
+use mathlib.Core.Bool.{Bool, true, false}
+use mathlib.Core.Option.{Option, some, none, Option·map}
+use native.Mathlib.Nat.{not-suc-le-zero, le-of-suc-le-suc}
+use native.Mathlib.Omega.{arith}
+use native.Mathlib.Decide.{decLe}
+use lib.Dec.{eqb}
+use lib.ListN.{length}
+use borrow.Author.Tests.{eqb-true, eqb-false}
+use Rattle.reliability.specs.declared.Link.{Link}
+use Rattle.reliability.specs.Networks.{Network, linkAt}
+use Rattle.reliability.specs.Rule.{firstAt, degreeSum, largest, largestSum}
+use Rattle.reliability.proofs.Lists.{getD-mem}
+use Rattle.reliability.proofs.Searches.{Answers, nth, Holds, Fails, first-at}
+
+-- no earlier place passes the test
+module _ (p : Link → Bool) where
+  abbrev Misses : List Link → ℕ → Type 0
+  Misses es i = (j : ℕ) → j < i → p (nth es j) ≡ false
+
+  misses-later : (e : Link) (es : List Link) (i : ℕ) → p e ≡ false → Misses es i → Misses (e ∷ es) (suc i)
+  misses-later e es i t h zero k = t
+  misses-later e es i t h (suc j) k = h j (le-of-suc-le-suc k)
+
+  earlier : (es : List Link) → Answers (Misses es) (Unit {0}) (firstAt p es)
+  unfolding firstAt
+  earlier [] = tt
+  earlier (e ∷ es) = go (p e) refl (firstAt p es) (earlier es)
+    where
+      go : (t : Bool) → p e ≡ t → (o : Option ℕ) → Answers (Misses es) (Unit {0}) o → Answers (Misses (e ∷ es)) (Unit {0}) (elim t [ true ↦ some zero | false ↦ Option·map suc o ])
+      go true t o h = λ j k. absurd (not-suc-le-zero k)
+      go false t (some i) h = misses-later e es i t h
+      go false t none h = tt
+
+module _ (w : Link → ℕ) where
+  above : (es : List Link) (e : Link) → List·Memᴰ e es → w e ≤ largest w es
+  unfolding largest
+  above (f ∷ es) e (List·Memᴰ·head q) = omega (arith, ap w q)
+  above (f ∷ es) e (List·Memᴰ·tail m) = omega (arith, above es e m)
+
+  abbrev Attained : List Link → Type 0
+  Attained es = (e : Link) × List·Memᴰ e es × (w e ≡ largest w es)
+
+  -- the largest is attained
+  attained : (e : Link) (es : List Link) → Attained (e ∷ es)
+  unfolding largest
+  attained e [] = (e, List·Memᴰ·head refl, omega arith)
+  attained e (f ∷ es) = go (decLe (largest w (f ∷ es)) (w e)) (attained f es)
+    where
+      go : Dec (largest w (f ∷ es) ≤ w e) → Attained (f ∷ es) → Attained (e ∷ (f ∷ es))
+      go (yes h) a = (e, List·Memᴰ·head refl, omega arith)
+      go (no h) a = (a .0, List·Memᴰ·tail (a .1), omega (arith, a .2))
+
+-- the link at place i has the largest sum, and every earlier link's is smaller
+pub record AtLargest (g : Network) (i : ℕ) : Type 0 where
+  pub place : i < length (g .links)
+  pub most : (e : Link) → List·Memᴰ e (g .links) → degreeSum (g .links) e ≤ degreeSum (g .links) (linkAt g i)
+  pub earliest : (j : ℕ) → j < i → degreeSum (g .links) (linkAt g j) < degreeSum (g .links) (linkAt g i)
+
+module _ (g : Network) where
+  abbrev w : Link → ℕ
+  w = degreeSum (g .links)
+
+  abbrev top : ℕ
+  top = largest w (g .links)
+
+  abbrev full : Link → Bool
+  full e = eqb (w e) top
+
+  largest-by : 0 < length (g .links) → (o : Option ℕ) → Answers (Holds full (g .links)) (Fails full (g .links)) o → Answers (Misses full (g .links)) (Unit {0}) o → AtLargest g (elim o [ some i ↦ i | none ↦ 0 ])
+  largest-by here (some i) h m =
+      let same = eqb-true (w (linkAt g i)) top (h .test) in
+      record {
+        place = h .place;
+        most = λ e n. omega (arith, above w (g .links) e n);
+        earliest = λ j k. omega (arith, eqb-false (w (linkAt g j)) top (m j k), above w (g .links) (linkAt g j) (getD-mem (g .links) _ (let p = h .place in omega arith)));
+      }
+  largest-by here none h m = absurd (go (g .links) here h)
+    where
+      go : (es : List Link) → 0 < length es → ((e : Link) → List·Memᴰ e es → eqb (w e) (largest w es) ≡ false) → ⊥
+      go [] p f = not-suc-le-zero p
+      go (e ∷ es) p f = let (x, n, q) = attained w e es in eqb-false (w x) (largest w (e ∷ es)) (f x n) q
+
+  pub at-largest : 0 < length (g .links) → AtLargest g (largestSum g)
+  unfolding largestSum
+  at-largest here = largest-by here (firstAt full (g .links)) (first-at full (g .links)) (earlier full (g .links))
