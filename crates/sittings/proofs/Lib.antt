@@ -3,5 +3,6 @@ pub mod Own
 pub mod Asides
 pub mod Bounds
 pub mod Rows
+pub mod Opened
 pub mod Totals
 pub mod Examples
