@@ -83,7 +83,8 @@ pub fn run<'r>(
                 aside: f.aside,
             }
         }
-        Next::Split(i) => {
+        Next::Split(c) => {
+            let i = steps::split_on(alive, c, row, k, left);
             if sittings::stopped(left, limit) {
                 return sittings::whole(figures::unfinished());
             }

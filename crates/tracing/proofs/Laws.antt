@@ -1,24 +1,27 @@
 -- Whether the open splits of a row are splits of a tree, by what the tree is; and what is left of a network without loops or without a link.
-use Prim.Native.Nat.{ℕ, zero, suc, _+_, _-_, _*_, _≤_}
+use Prim.Native.Nat.{ℕ, zero, suc, _+_, _-_, _*_, _≤_, _<_}
 use mathlib.Core.Path.{_≡_, refl, sym, ap, ap₂, _∙_, subst}
 use mathlib.Core.List.{List, [], _∷_}
-use mathlib.Core.Bool.{Bool, true, false, cond, not, _&&_, _||_}
+use mathlib.Core.Bool.{Bool, true, false, cond, not, _&&_, _||_, or-true as or-right}
+use mathlib.Core.Logic.{inl, inr, ⊎-elim}
 use mathlib.Core.Option.{none}
 use native.Mathlib.Numerals.{add-one}
 use native.Mathlib.Omega.{arith}
 use lib.Dec.{eqb, leb}
 use lib.ListN.{getD}
-use borrow.Author.Tests.{eq-eqb, ne-eqb, le-leb}
+use borrow.Author.Tests.{eqb-true, eq-eqb, ne-eqb, le-leb}
 use Rattle.rounding.specs.declared.Direction.{Direction}
 use Rattle.reliability.specs.declared.Link.{Link}
 use Rattle.reliability.specs.Networks.{piecesOf}
 use Rattle.reliability.specs.Rule.{deleted, Tree, ready, multiplied, fork, taken}
 use Rattle.reliability.specs.Simple.{Simple}
-use Rattle.reliability.proofs.Lists.{by-eqb}
+use Rattle.bits.specs.Members.{members}
+use Rattle.reliability.proofs.Lists.{by-eqb, or-true}
 use Rattle.reliability.proofs.Simple.{connected-pieces-few, deleted-simple}
 use Rattle.network.specs.declared.Network.{Network}
-use Rattle.network.specs.Places.{networkOf, indexOf, Invariant, Sized}
-use Rattle.steps.specs.Simple.{Workable}
+use Rattle.network.specs.Places.{rank, networkOf, indexOf, Invariant, Sized}
+use Rattle.steps.specs.Simple.{Workable, splitOn}
+use Rattle.steps.proofs.Places.{rank-lowest, split-first, split-placed}
 use Rattle.sittings.specs.Sittings.{Open, traced}
 use Rattle.sittings.specs.Entries.{opensIn}
 use Rattle.sittings.proofs.Opened.{openBy, fork-open, taken-open}
@@ -77,6 +80,29 @@ module _ (row : List ℕ) (k : ℕ) where
           ∙ ap (λ (u : Tree). traced u (openBy row k kn ∷ os)) (sym (ap w place ∙ work))
           ∙ ap (λ (x : Bool). x && followed kn left) (sym either)
           ∙ traced-fork left h kn q
+
+-- the link to split on stands at the place of the open split exactly where that is the first link's or the chosen one's
+module _ (alive c : ℕ) (row : List ℕ) (k left : ℕ) (some : 0 < left) where
+  abbrev stored : ℕ
+  stored = getD row (3 * k) 0
+
+  abbrev chosenAt : ℕ
+  chosenAt = rank c (members alive)
+
+  abbrev onAt : ℕ
+  onAt = rank (splitOn alive c row k left) (members alive)
+
+  pub on-link : stored ≡ onAt → (eqb stored 0 || eqb stored chosenAt) ≡ true
+  on-link e = by-eqb (λ b. (eqb stored 0 || b) ≡ true) stored chosenAt
+      (λ same. or-right (eqb stored 0))
+      (λ other. ap (λ (b : Bool). b || false) (eq-eqb stored 0 (e ∙ ap (λ (p : ℕ). rank p (members alive)) (split-first alive c row k left some other) ∙ rank-lowest (members alive))))
+
+  pub off-link : (stored ≡ onAt → ⊥) → (eqb stored 0 || eqb stored chosenAt) ≡ false
+  off-link h = go (eqb stored 0 || eqb stored chosenAt) refl
+    where
+      go : (b : Bool) → (eqb stored 0 || eqb stored chosenAt) ≡ b → b ≡ false
+      go false e = refl
+      go true e = absurd (h (sym (split-placed alive c row k left some (⊎-elim (λ z. inr (eqb-true stored 0 z)) (λ z. inl (eqb-true stored chosenAt z)) (or-true (eqb stored 0) (eqb stored chosenAt) e)))))
 
 -- one is left: none behind it
 pub one-left : (left : ℕ) → (left ≡ 0 → ⊥) → eqb left 1 ≡ eqb (left - 1) 0

@@ -63,7 +63,8 @@ fn follow<'r>(
                 left,
             )
         }
-        Next::Split(i) => {
+        Next::Split(c) => {
+            let i = steps::split_on(alive, c, row, k, left);
             if row[3 * k] != steps::place(alive, i) {
                 return false;
             }

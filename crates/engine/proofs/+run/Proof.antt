@@ -1,14 +1,14 @@
 use Prim.Native.Nat.{ℕ, suc, _+_, _-_, _*_, _≤_, _<_}
 use mathlib.Core.Path.{_≡_, refl, sym, ap, ap₂, _∙_, subst}
 use mathlib.Core.List.{List}
-use mathlib.Core.Bool.{Bool, true, false, _&&_, true≢false}
-use mathlib.Core.Logic.{inl, inr}
+use mathlib.Core.Bool.{Bool, true, false, cond, _&&_, true≢false}
+use mathlib.Core.Logic.{inl, inr, ⊎-elim}
 use native.Mathlib.Numerals.{add-one}
 use native.Mathlib.Omega.{arith}
 use lib.Dec.{eqb}
-use lib.ListN.{length}
+use lib.ListN.{length, getD}
 use lib.Seq.{sets}
-use borrow.Author.Tests.{ne-eqb}
+use borrow.Author.Tests.{eqb-true, ne-eqb}
 use Rattle.rounding.specs.Rounding.{S, factor}
 use Rattle.reliability.specs.declared.Link.{Link}
 use Rattle.reliability.specs.declared.Figure.{Figure}
@@ -16,22 +16,26 @@ use Rattle.reliability.specs.declared.Step.the-variants.{End, Series, Split}
 use Rattle.reliability.specs.Networks.{Network as Graph, value}
 use Rattle.reliability.specs.Rule.{Tree, ready, multiplied, fork, tree, more, mixed, deleted, removed, joined, inSeries, contracted, bounded, times}
 use Rattle.reliability.specs.Simple.{Plain}
+use Rattle.reliability.proofs.Lists.{by-eqb, or-true}
 use Rattle.reliability.proofs.Runs.{Ranged}
+use Rattle.reliability.proofs.Unrolled.{Below}
 use Rattle.network.specs.declared.Network.{Network}
-use Rattle.network.specs.Places.{rowOf as linkRow, linksOf, networkOf, indexOf, linkOf, Invariant, Sized, ranked, Fitting, assembled}
+use Rattle.network.specs.Places.{rowOf as linkRow, linksOf, networkOf, indexOf, linkOf, Invariant, Used, Sized, ranked, Fitting, assembled}
 use Rattle.network.proofs.Ends.{ended}
 use Rattle.network.proofs.Kept.{known, ends-below}
 use Rattle.steps.specs.declared.Next.{Next}
 use Rattle.steps.specs.declared.Next.the-variants.{OneNode as One, End as Ended, Series as InSeries, Split as Splitting}
 use Rattle.steps.specs.Simple.{Workable, stepOf}
-use Rattle.steps.proofs.Arms.{Within, sized-of, moved-fits, link-within, fewer, unpaired-work, unpaired-same, unpaired-less, one-tree, link-is, end-below, end-tree, last-end, end-work, series-left, series-below, series-tree, sound-left, sound-below, broken-below, split-tree, broken-is, broken-sized, broken-apart, broken-work}
+use Rattle.steps.proofs.Arms.{Within, sized-of, moved-fits, link-within, fewer, unpaired-work, unpaired-same, unpaired-less, one-tree, link-is, end-below, end-tree, last-end, end-work, series-left, series-below, series-tree, works, at-link, split-work, sound-left, sound-below, broken-below, split-tree, broken-is, broken-sized, broken-apart, broken-work}
 use Rattle.sittings.specs.declared.Carried.{Carried}
 use Rattle.sittings.specs.Sittings.{Open, aside, resumed}
 use Rattle.sittings.specs.Entries.{opensIn, ownEntry, ownCount}
 use Rattle.sittings.proofs.Asides.{tree-fresh}
-use Rattle.sittings.proofs.Bounds.{depth, resumed-ranged, tree-ranged, tree-depth}
+use Rattle.sittings.proofs.Bounds.{Deep, deeper, resumed-ranged, tree-ranged, tree-deep}
 use Rattle.engine.specs.Carrying.{Carries, Worked}
-use Rattle.engine.proofs.Splits.{own-fits, known-worked, broken-ready, ready-worked, stopped-worked, factor-worked, factor-carries, knownPair, soundOf, brokenOf, split-worked, sound-carries, broken-carries, broken-resumed, sound-ranged, broken-ranged, sound-few, broken-few, Bounded, worked-bounded, worked-size}
+use Rattle.steps.proofs.Places.{split-fresh, split-placed, split-used}
+use Rattle.sittings.proofs.Opened.{knownPair}
+use Rattle.engine.proofs.Splits.{own-fits, known-worked, broken-ready, ready-worked, stopped-worked, factor-worked, factor-carries, Taking, open-place, soundOf, brokenOf, split-worked, sound-carries, broken-carries, broken-resumed, sound-ranged, broken-ranged, sound-few, broken-few, Bounded, worked-bounded, worked-size}
 use borrow.Author.Needs.{needs}
 use borrow.Fn.Kinds.{In}
 use borrow.Fn.PlainCycle.{Measures, is, falls, and}
@@ -61,6 +65,7 @@ use Rattle.sittings.proofs.known_at.Reads as known-at-reads
 use Rattle.sittings.proofs.own_steps.Reads as own-steps-reads
 use Rattle.sittings.proofs.stopped.Reads as stopped-reads
 use Rattle.steps.proofs.place.Reads as place-reads
+use Rattle.steps.proofs.split_on.Reads as split-on-reads
 use Rattle.steps.proofs.step.Reads as step-reads
 use Rattle.engine.proofs.+run.{statement}
 use Rattle.engine.proofs.+run.Tie.{close}
@@ -102,6 +107,8 @@ claims t = (
   parallel-reads.Learnt,
   times-factor-reads.Asked,
   times-factor-reads.Learnt,
+  split-on-reads.Asked,
+  split-on-reads.Learnt,
   stopped-reads.Asked,
   stopped-reads.Learnt,
   unfinished-reads.Asked,
@@ -438,8 +445,8 @@ run-returns-6 t c =
 
 -- ---- a split
 
-run-enum-known-i : (t : ℕ) → run-lts.Need-enum-known-i (claims t) (run-at t) run.Post
-run-enum-known-i t c = search needs
+run-enum-known-c : (t : ℕ) → run-lts.Need-enum-known-c (claims t) (run-at t) run.Post
+run-enum-known-c t c = search needs
 
 run-stopped-requires : (t : ℕ) → run-lts.Need-stopped-requires (claims t) (run-at t) run.Post
 run-stopped-requires t c κs = search needs
@@ -453,21 +460,40 @@ run-whole-requires-3 t c κs = search needs
 abbrev Split-known : ℕ → Type 0
 Split-known t = run-lts.After-stopped (claims t) (run-at t) run.Post
 
+-- the chosen link
+module _ (t : ℕ) (told : Told t) (c : ℕ) (fits : Fitting (net t told) (Split c)) where
+  -- there is a link, so there is room for an entry
+  room-for : told .before .args .k < 64
+  room-for = let b = broken-below (net t told) (workable t told) c fits c (fits .placed) in omega (arith, b .fewer, room t told)
+
+-- the link to split on: of the next open split, else the chosen one
+run-split-on-requires : (t : ℕ) → run-lts.Need-split-on-requires (claims t) (run-at t) run.Post
+run-split-on-requires t c κs =
+    let told = c .before .before .before in
+    let fits = fitting t told (Splitting _) (c .before .c .given .1) in
+    (fits .placed .below, room-for t told _ fits)
+
 module _ (t : ℕ) (k : Split-known t) where
   abbrev told : Told t
-  told = k .before .before .before .before
+  told = k .before .before .before .before .before
 
   abbrev given : run-lts.Start (claims t) (run-at t) run.Post
   given = told .before
 
+  abbrev first : ℕ
+  first = k .before .before .before .c .given .0 .0
+
   abbrev place : ℕ
-  place = k .before .before .i .given .0 .0
+  place = k .before .split-on .result
 
   abbrev n : Network
   n = net t told
 
-  split-fits : Fitting n (Split place)
-  split-fits = fitting t told (Splitting _) (k .before .before .i .given .1)
+  chosen-fits : Fitting n (Split first)
+  chosen-fits = fitting t told (Splitting _) (k .before .before .before .c .given .1)
+
+  used : Used n place
+  used = subst (Used n) (sym (k .before .split-on .ensures)) (split-used n first (chosen-fits .placed) (given .args .row .now) (given .args .k) (given .args .left))
 
   abbrev link : Link
   link = linkOf n place
@@ -478,24 +504,43 @@ module _ (t : ℕ) (k : Split-known t) where
   abbrev sound : Graph
   sound = contracted link broken
 
-  split-is : tree (networkOf n) ≡ fork (indexOf n place) link (tree sound) (tree broken)
-  split-is = split-tree n (workable t told) place split-fits
+  split-is : tree (networkOf n) ≡ fork (indexOf n first) (works n (workable t told))
+  split-is = split-tree n (workable t told) first chosen-fits
 
-  split-carries : Carries (fork (indexOf n place) link (tree sound) (tree broken)) (given .args .row .now) (given .args .k) (given .args .left)
-  split-carries = subst (λ (u : Tree). Carries u (given .args .row .now) (given .args .k) (given .args .left)) split-is (carries t told)
+  -- it stands at the place of the next open split, else at the chosen place
+  stands : indexOf n place ≡ cond (eqb (given .args .left) 0) (indexOf n first) (getD (given .args .row .now) (3 * given .args .k) 0)
+  stands =
+      let row = given .args .row .now in
+      let j = getD row (3 * given .args .k) 0 in
+      let on = ap (indexOf n) (k .before .split-on .ensures) in
+      by-eqb (λ b. indexOf n place ≡ cond b (indexOf n first) j) (given .args .left) 0
+      (λ none. on ∙ ap (indexOf n) (split-fresh (n .alive) first row (given .args .k) (given .args .left) none))
+      (λ some. on ∙ split-placed (n .alive) first row (given .args .k) (given .args .left) (omega arith)
+          (⊎-elim (λ z. inr (eqb-true j 0 z)) (λ z. inl (eqb-true j (indexOf n first) z)) (or-true (eqb j 0) (eqb j (indexOf n first)) (open-place split-is row (given .args .k) (given .args .left) (carries t told) some))))
+
+  taking : Taking (tree (networkOf n)) (indexOf n place) link (tree sound) (tree broken) (getD (given .args .row .now) (3 * given .args .k) 0) (given .args .left)
+  taking = record { chosen = indexOf n first; work = works n (workable t told); is = split-is; at = split-work n (workable t told) first chosen-fits place used; place = stands }
+
+  split-differ : linkOf n place .a ≡ linkOf n place .b → ⊥
+  split-differ = at-link n (workable t told) first chosen-fits place used .differ
 
   sound-plainly : Plain sound
-  sound-plainly = sound-left n (workable t told) place split-fits
+  sound-plainly = sound-left n (workable t told) first chosen-fits place used
 
-  sound-depth : depth (tree sound) ≤ 64
-  sound-depth = let b = sound-below n (workable t told) place split-fits in omega (arith, tree-depth sound (b .valid), b .fewer, room t told)
+  sound-fewer : Below (networkOf n) sound
+  sound-fewer = sound-below n (workable t told) first chosen-fits place used
 
-  broken-depth : depth (tree broken) ≤ 64
-  broken-depth = let b = broken-below n (workable t told) place split-fits in omega (arith, tree-depth broken (b .valid), b .fewer, room t told)
+  broken-fewer : Below (networkOf n) broken
+  broken-fewer = broken-below n (workable t told) first chosen-fits place used
 
-  -- there is a link, so there is room for an entry
+  sound-deep : Deep 64 (tree sound)
+  sound-deep = let b = sound-fewer in deeper _ 64 (tree sound) (omega (arith, b .fewer, room t told)) (tree-deep sound (b .valid))
+
+  broken-deep : Deep 64 (tree broken)
+  broken-deep = let b = broken-fewer in deeper _ 64 (tree broken) (omega (arith, b .fewer, room t told)) (tree-deep broken (b .valid))
+
   row-room : given .args .k < 64
-  row-room = let b = broken-below n (workable t told) place split-fits in omega (arith, b .fewer, room t told)
+  row-room = room-for t told first chosen-fits
 
 run-returns-2 : (t : ℕ) → run-lts.Need-returns-2 (claims t) (run-at t) run.Post
 run-returns-2 t c =
@@ -504,10 +549,10 @@ run-returns-2 t c =
     stopped-worked (split-is t s) (rowOf t (told t s)) (a .k) (a .left) (a .limit) (c .whole3 .result) (sym (s .stopped .ensures) ∙ c .before .before .if2 .taken) (c .whole3 .ensures .0 ∙ c .before .unfinished .ensures) (c .whole3 .ensures .1)
 
 run-link-at-requires-4 : (t : ℕ) → run-lts.Need-link-at-requires-4 (claims t) (run-at t) run.Post
-run-link-at-requires-4 t c κs = split-fits t (c .before) .placed .below
+run-link-at-requires-4 t c κs = used t (c .before) .below
 
 run-place-requires : (t : ℕ) → run-lts.Need-place-requires (claims t) (run-at t) run.Post
-run-place-requires t c κs = split-fits t (c .before .before) .placed .below
+run-place-requires t c κs = used t (c .before .before) .below
 
 run-own-steps-requires : (t : ℕ) → run-lts.Need-own-steps-requires (claims t) (run-at t) run.Post
 run-own-steps-requires t c κs = search needs
@@ -541,8 +586,7 @@ unfolding ranked
 run-contracted-requires t c κs =
     let s = split-of t (c .before .before) in
     let e = c .assembled3 .ensures in
-    let g = moved-fits (sym e) (split-fits t s) in
-    (put-together t (told t s) e, g .placed, ne-eqb _ _ (known (c .assembled3 .result) (put-together t (told t s) e) (Split (place t s)) g .differ))
+    (put-together t (told t s) e, subst (λ (n : Network). Used n (place t s)) (sym e) (used t s), subst (λ (n : Network). eqb (linkOf n (place t s) .a) (linkOf n (place t s) .b) ≡ false) (sym e) (ne-eqb _ _ (split-differ t s)))
 
 -- the sound branch
 abbrev Contracted : ℕ → Type 0
@@ -604,19 +648,19 @@ module _ (t : ℕ) (q : Asked t) where
 
   sound-bounds : Ranged S₁
   sound-bounds =
-      sound-ranged (indexOf (n t state) (place t state)) (link t state) (tree (sound t state)) (tree (broken t state)) row depth-at splits-left inner (q .before .before .behind .ensures) isIt (q .is-known .ensures) (split-carries t state)
-      (tree-ranged (sound t state) (sound-below (n t state) (workable t (told t state)) (place t state) (split-fits t state) .valid))
+      sound-ranged (tree (networkOf (n t state))) (indexOf (n t state) (place t state)) (link t state) (tree (sound t state)) (tree (broken t state)) row depth-at splits-left inner (taking t state) (q .before .before .behind .ensures) isIt (q .is-known .ensures) (carries t (told t state))
+      (tree-ranged (sound t state) (sound-fewer t state .valid))
 
   broken-bounds : Ranged B₁
   broken-bounds =
-      broken-ranged (indexOf (n t state) (place t state)) (link t state) (tree (sound t state)) (tree (broken t state)) row depth-at splits-left inner (q .before .before .behind .ensures) isIt (q .is-known .ensures) (split-carries t state)
-      (tree-ranged (broken t state) (broken-below (n t state) (workable t (told t state)) (place t state) (split-fits t state) .valid))
+      broken-ranged (tree (networkOf (n t state))) (indexOf (n t state) (place t state)) (link t state) (tree (sound t state)) (tree (broken t state)) row depth-at splits-left inner (taking t state) (q .before .before .behind .ensures) isIt (q .is-known .ensures) (carries t (told t state))
+      (tree-ranged (broken t state) (broken-fewer t state .valid))
 
   sound-open : (l : ℕ) → length (aside S₁ l) ≤ 64
-  sound-open = sound-few (indexOf (n t state) (place t state)) (link t state) (tree (sound t state)) (tree (broken t state)) row depth-at splits-left inner (q .before .before .behind .ensures) isIt (q .is-known .ensures) (split-carries t state) 64 (sound-depth t state)
+  sound-open = sound-few (tree (networkOf (n t state))) (indexOf (n t state) (place t state)) (link t state) (tree (sound t state)) (tree (broken t state)) row depth-at splits-left inner (taking t state) (q .before .before .behind .ensures) isIt (q .is-known .ensures) (carries t (told t state)) 64 (sound-deep t state)
 
   broken-open : (l : ℕ) → length (aside B₁ l) ≤ 64
-  broken-open = broken-few (indexOf (n t state) (place t state)) (link t state) (tree (sound t state)) (tree (broken t state)) row depth-at splits-left inner (q .before .before .behind .ensures) isIt (q .is-known .ensures) (split-carries t state) 64 (broken-depth t state)
+  broken-open = broken-few (tree (networkOf (n t state))) (indexOf (n t state) (place t state)) (link t state) (tree (sound t state)) (tree (broken t state)) row depth-at splits-left inner (taking t state) (q .before .before .behind .ensures) isIt (q .is-known .ensures) (carries t (told t state)) 64 (broken-deep t state)
 
 run-add-run : (t : ℕ) → run-lts.Need-add-run (claims t) (run-at t) run.Post
 run-add-run t c =
@@ -634,8 +678,8 @@ run-run-requires-3 t c κs =
     let o = told t s in
     let n = net t o in
     let r = l .contracted .result in
-    let few = unpaired-less (sound-plainly t s) r (p .result) (sound-is t l) (p .ensures .0) (networkOf n) (sound-below n (workable t o) _ (split-fits t s)) in
-    let carried = sound-carries (indexOf n (place t s)) (link t s) (tree (sound t s)) (tree (broken t s)) (row t q) (depth-at t q) (splits-left t q) (inner t q) (q .before .before .behind .ensures) (isIt t q) (q .is-known .ensures) (split-carries t s) (e .if3 .left) in (
+    let few = unpaired-less (sound-plainly t s) r (p .result) (sound-is t l) (p .ensures .0) (networkOf n) (sound-fewer t s) in
+    let carried = sound-carries (tree (networkOf n)) (indexOf n (place t s)) (link t s) (tree (sound t s)) (tree (broken t s)) (row t q) (depth-at t q) (splits-left t q) (inner t q) (taking t s) (q .before .before .behind .ensures) (isIt t q) (q .is-known .ensures) (carries t (told t s)) (e .if3 .left) in (
       less t o _ few,
       (
         (unpaired-work (sound-plainly t s) r (p .result) (sound-is t l) (p .ensures .0) (sized-of (p .lifetimes) (p .result) (p .ok)) (p .ensures .1), omega (arith, o .before .pre .1 .0 .1)),
@@ -710,7 +754,7 @@ module _ (t : ℕ) (m : Met t) where
   sound-count = omega (arith, sound-given .0 .count, sound-open t at (limit t at - own t at))
 
   sound-size : length (m .if3 .row) ≡ 192
-  sound-size = worked-size (split-carries t (state t at) .size) (sound-given .0)
+  sound-size = worked-size (carries t (told t (state t at)) .size) (sound-given .0)
 
   -- the link of the split
   abbrev chosen : Link
@@ -720,32 +764,32 @@ module _ (t : ℕ) (m : Met t) where
   chosen-row = at .before .before .before .before .before .link-at4 .ensures
 
   chosen-link : chosen ≡ link t (state t at)
-  chosen-link = link-is (n t (state t at)) (workable t (told t (state t at))) chosen (place t (state t at)) (split-fits t (state t at) .placed) chosen-row
+  chosen-link = link-is (n t (state t at)) (workable t (told t (state t at))) chosen (place t (state t at)) (used t (state t at)) chosen-row
 
   chosen-within : Within (chosen .low) (chosen .high)
-  chosen-within = let w = workable t (told t (state t at)) in link-within (n t (state t at)) (w .holds) (w .sized) chosen (place t (state t at)) (split-fits t (state t at) .placed) chosen-link
+  chosen-within = let w = workable t (told t (state t at)) in link-within (n t (state t at)) (w .holds) (w .sized) chosen (place t (state t at)) (used t (state t at)) chosen-link
 
   chosen-ends : (chosen .a < 32) × (chosen .b < 32)
   chosen-ends =
       let w = workable t (told t (state t at)) in
-      subst (λ (e : Link). (e .a < 32) × (e .b < 32)) (sym chosen-row) (ends-below (n t (state t at)) (w .sized) (w .holds) (place t (state t at)) (split-fits t (state t at) .placed))
+      subst (λ (e : Link). (e .a < 32) × (e .b < 32)) (sym chosen-row) (ends-below (n t (state t at)) (w .sized) (w .holds) (place t (state t at)) (used t (state t at)))
 
 -- ---- the broken branch
 
 run-without-requires-2 : (t : ℕ) → run-lts.Need-without-requires-2 (claims t) (run-at t) run.Post
-run-without-requires-2 t c κs = split-fits t (state t (at t c)) .placed .below
+run-without-requires-2 t c κs = used t (state t (at t c)) .below
 
 run-take-out-requires : (t : ℕ) → run-lts.Need-take-out-requires (claims t) (run-at t) run.Post
 run-take-out-requires t c κs =
     let m = c .before .before .before in
     let s = state t (at t m) in
-    (workable t (told t s) .sized .at-length, omega (arith, chosen-ends t m), split-fits t s .placed .below)
+    (workable t (told t s) .sized .at-length, omega (arith, chosen-ends t m), used t s .below)
 
 run-take-out-requires-2 : (t : ℕ) → run-lts.Need-take-out-requires-2 (claims t) (run-at t) run.Post
 run-take-out-requires-2 t c κs =
     let m = c .before .before .before .before .before in
     let s = state t (at t m) in
-    (c .before .take-out .ensures .size ∙ workable t (told t s) .sized .at-length, omega (arith, chosen-ends t m), split-fits t s .placed .below)
+    (c .before .take-out .ensures .size ∙ workable t (told t s) .sized .at-length, omega (arith, chosen-ends t m), used t s .below)
 
 abbrev Taken : ℕ → Type 0
 Taken t = run-lts.After-take-out2 (claims t) (run-at t) run.Post
@@ -764,10 +808,10 @@ module _ (t : ℕ) (x : Taken t) where
       record { alive = x .before .before .before .before .before .without2 .result; at = x .take-out2 .last .0; low = n .low; high = n .high; a = n .a; b = n .b; nodes = n .nodes }
 
   without-is : (networkOf without-it ≡ broken t splitting) × Invariant without-it
-  without-is = broken-is (net t (told t splitting)) (workable t (told t splitting)) (place t splitting) (split-fits t splitting) (chosen t met) (chosen-row t met) (x .before .before .before .before .before .without2 .result) _ _ (x .before .before .before .before .before .without2 .ensures) (x .before .before .take-out .ensures) (x .take-out2 .ensures)
+  without-is = broken-is (net t (told t splitting)) (workable t (told t splitting)) (first t splitting) (chosen-fits t splitting) (place t splitting) (used t splitting) (chosen t met) (chosen-row t met) (x .before .before .before .before .before .without2 .result) _ _ (x .before .before .before .before .before .without2 .ensures) (x .before .before .take-out .ensures) (x .take-out2 .ensures)
 
   without-sized : Sized without-it
-  without-sized = broken-sized (net t (told t splitting)) (workable t (told t splitting)) (place t splitting) (split-fits t splitting) (chosen t met) (chosen-row t met) (x .before .before .before .before .before .without2 .result) _ _ (x .before .before .before .before .before .without2 .ensures) (x .before .before .take-out .ensures) (x .take-out2 .ensures)
+  without-sized = broken-sized (net t (told t splitting)) (workable t (told t splitting)) (first t splitting) (chosen-fits t splitting) (place t splitting) (used t splitting) (chosen t met) (chosen-row t met) (x .before .before .before .before .before .without2 .result) _ _ (x .before .before .before .before .before .without2 .ensures) (x .before .before .take-out .ensures) (x .take-out2 .ensures)
 
 run-count-requires : (t : ℕ) → run-lts.Need-count-requires (claims t) (run-at t) run.Post
 run-count-requires t c κs =
@@ -791,13 +835,13 @@ module _ (t : ℕ) (n : Counted t) where
   without-apart =
       let x = taken-out in
       let s = splitting t x in
-      broken-apart (net t (told t s)) (workable t (told t s)) (place t s) (split-fits t s) (chosen t (met t x)) (chosen-row t (met t x)) (x .before .before .before .before .before .without2 .result) _ _ (x .before .before .before .before .before .without2 .ensures) (x .before .before .take-out .ensures) (x .take-out2 .ensures) (n .count .result) (n .count .ensures)
+      broken-apart (net t (told t s)) (workable t (told t s)) (first t s) (chosen-fits t s) (place t s) (used t s) (chosen t (met t x)) (chosen-row t (met t x)) (x .before .before .before .before .before .without2 .result) _ _ (x .before .before .before .before .before .without2 .ensures) (x .before .before .take-out .ensures) (x .take-out2 .ensures) (n .count .result) (n .count .ensures)
 
   without-work : n .count .result ≤ 1 → Workable (without-it t taken-out)
   without-work =
       let x = taken-out in
       let s = splitting t x in
-      broken-work (net t (told t s)) (workable t (told t s)) (place t s) (split-fits t s) (chosen t (met t x)) (chosen-row t (met t x)) (x .before .before .before .before .before .without2 .result) _ _ (x .before .before .before .before .before .without2 .ensures) (x .before .before .take-out .ensures) (x .take-out2 .ensures) (n .count .result) (n .count .ensures)
+      broken-work (net t (told t s)) (workable t (told t s)) (first t s) (chosen-fits t s) (place t s) (used t s) (chosen t (met t x)) (chosen-row t (met t x)) (x .before .before .before .before .before .without2 .result) _ _ (x .before .before .before .before .before .without2 .ensures) (x .before .before .take-out .ensures) (x .take-out2 .ensures) (n .count .result) (n .count .ensures)
 
 -- ---- the split, from what its branches gave
 
@@ -810,9 +854,8 @@ module _ (t : ℕ) (m : Met t) where
   closing b r end after worked figure count written =
       let q = at t m in
       let s = state t q in
-      subst (λ (u : Tree). Worked (resumed u (opensIn (row t q) (depth-at t q) (splits-left t q))) (limit t q) (row t q) (depth-at t q) r after) (sym (split-is t s))
-      (split-worked (indexOf (n t s) (place t s)) (link t s) (tree (sound t s)) (tree (broken t s)) (row t q) (depth-at t q) (splits-left t q) (inner t q) (q .before .before .behind .ensures) (isIt t q) (q .is-known .ensures) (own t q) (q .before .before .before .own-steps .ensures) (limit t q) (going t q)
-      (tree-fresh (broken t s)) (m .if3 .sound) b r (m .if3 .row) end after (sound-given t m .0) worked
+      (split-worked (tree (networkOf (n t s))) (indexOf (n t s) (place t s)) (link t s) (tree (sound t s)) (tree (broken t s)) (row t q) (depth-at t q) (splits-left t q) (inner t q) (taking t s) (q .before .before .behind .ensures) (isIt t q) (q .is-known .ensures) (own t q) (q .before .before .before .own-steps .ensures) (limit t q) (going t q)
+      (tree-fresh (broken t s) (broken-fewer t s .valid)) (m .if3 .sound) b r (m .if3 .row) end after (sound-given t m .0) worked
       (figure ∙ ap (λ (e : Link). more (own t q) (mixed e (m .if3 .sound .figure) (b .figure))) (chosen-link t m)) count
       (written ∙ ap (λ (i : ℕ). sets end (3 * depth-at t q) (ownEntry i (m .if3 .sound .figure) (b .figure))) (q .before .before .before .before .place .ensures)))
 
@@ -903,7 +946,7 @@ module _ (t : ℕ) (c : Rest t) where
       let s = state t q in
       subst (λ (u : Tree). Carries u (m .if3 .row) (depth-at t q + 1) (c .of-broken .result)) rest-tree
       (subst (λ (x : ℕ). Carries (tree (broken t s)) (m .if3 .row) x (c .of-broken .result)) (sym (add-one (depth-at t q)))
-      (broken-carries (indexOf (n t s) (place t s)) (link t s) (tree (sound t s)) (tree (broken t s)) (row t q) (depth-at t q) (splits-left t q) (inner t q) (q .before .before .behind .ensures) (isIt t q) (q .is-known .ensures) (split-carries t s)
+      (broken-carries (tree (networkOf (n t s))) (indexOf (n t s) (place t s)) (link t s) (tree (sound t s)) (tree (broken t s)) (row t q) (depth-at t q) (splits-left t q) (inner t q) (taking t s) (q .before .before .behind .ensures) (isIt t q) (q .is-known .ensures) (carries t (told t s))
       (c .of-broken .result) (c .of-broken .ensures) (m .if3 .row) (sound-size t m) (sound-given t m .1)))
 
 run-run-requires-4 : (t : ℕ) → run-lts.Need-run-requires-4 (claims t) (run-at t) run.Post
@@ -911,7 +954,7 @@ run-run-requires-4 t c κs =
     let x = rest-out t c in
     let s = splitting t x in
     let o = told t s in
-    let few = fewer (networkOf (net t o)) (without-it t x) (without-is t x .0) (broken-below (net t o) (workable t o) (place t s) (split-fits t s)) in (
+    let few = fewer (networkOf (net t o)) (without-it t x) (without-is t x .0) (broken-fewer t s) in (
       less t o _ few,
       (
         (without-work t (rest-counted t c) (omega (arith, c .before .before .before .before .if4 .left)), omega (arith, o .before .pre .1 .0 .1)),
@@ -939,7 +982,7 @@ module _ (t : ℕ) (w : Done t) where
       let left = c .of-broken .result in
       let k = depth-at t q in
       subst (λ (u : Tree). Worked u l (m .if3 .row) (suc k) (w .run4 .result) done-row)
-      (broken-resumed (indexOf (n t s) (place t s)) (link t s) (tree (sound t s)) (tree (broken t s)) (row t q) k (splits-left t q) (inner t q) (q .before .before .behind .ensures) (isIt t q) (q .is-known .ensures) (split-carries t s)
+      (broken-resumed (tree (networkOf (n t s))) (indexOf (n t s) (place t s)) (link t s) (tree (sound t s)) (tree (broken t s)) (row t q) k (splits-left t q) (inner t q) (taking t s) (q .before .before .behind .ensures) (isIt t q) (q .is-known .ensures) (carries t (told t s))
       left (c .of-broken .ensures) (m .if3 .row) (sound-given t m .1))
       (subst (λ (x : ℕ). Worked (resumed (tree (broken t s)) (opensIn (m .if3 .row) x left)) l (m .if3 .row) x (w .run4 .result) done-row) (add-one k)
       (subst (λ (u : Tree). Worked (resumed u (opensIn (m .if3 .row) (k + 1) left)) l (m .if3 .row) (k + 1) (w .run4 .result) done-row) (sym (rest-tree t c)) (w .run4 .ensures)))
@@ -993,7 +1036,8 @@ pub +run-spec : {M : Type 1} → statement M
     (run-parallel-requires t)
     (run-run-requires-2 t)
     (run-times-factor-requires t)
-    (run-enum-known-i t)
+    (run-enum-known-c t)
+    (run-split-on-requires t)
     (run-stopped-requires t)
     (run-unfinished-requires t)
     (run-whole-requires-3 t)

@@ -1,24 +1,26 @@
 use Prim.Native.Nat.{ℕ, _+_, _-_, _*_, _≤_, _<_}
 use mathlib.Core.Path.{_≡_, sym, ap, _∙_, subst}
 use mathlib.Core.List.{List}
-use mathlib.Core.Bool.{Bool, true, false}
+use mathlib.Core.Bool.{Bool, true, false, cond}
 use native.Mathlib.Omega.{arith}
+use lib.Dec.{eqb}
 use lib.ListN.{length}
 use borrow.Author.Tests.{ne-eqb}
+use Rattle.bits.specs.Members.{members}
 use Rattle.reliability.specs.Networks.{Network as Graph}
 use Rattle.reliability.specs.declared.Step.the-variants.{End, Series, Split}
-use Rattle.reliability.specs.Rule.{deleted, removed, joined, inSeries, contracted, tree, Tree}
+use Rattle.reliability.specs.Rule.{deleted, removed, joined, inSeries, contracted, fork, tree, Tree}
 use Rattle.reliability.specs.Simple.{Plain}
 use Rattle.network.specs.declared.Network.{Network}
-use Rattle.network.specs.Places.{linksOf, networkOf, indexOf, linkOf, Invariant, ranked, Fitting, assembled}
-use Rattle.network.proofs.Kept.{known}
+use Rattle.network.specs.Places.{rank, linksOf, networkOf, indexOf, linkOf, Invariant, Used, ranked, Fitting, assembled}
 use Rattle.steps.specs.declared.Next.{Next}
 use Rattle.steps.specs.declared.Next.the-variants.{OneNode as One, End as Ended, Series as InSeries, Split as Splitting}
-use Rattle.steps.specs.Simple.{Workable, stepOf}
-use Rattle.steps.proofs.Arms.{sized-of, moved-fits, pieces-apart, fewer, unpaired-work, unpaired-same, unpaired-less, one-tree, end-below, end-work, end-tree, series-left, series-below, series-tree, sound-left, sound-below, broken-below, split-tree}
+use Rattle.steps.specs.Simple.{Workable, stepOf, splitOn}
+use Rattle.steps.proofs.Arms.{sized-of, moved-fits, pieces-apart, fewer, unpaired-work, unpaired-same, unpaired-less, one-tree, end-below, end-work, end-tree, series-left, series-below, series-tree, works, at-link, split-work, sound-left, sound-below, broken-below, split-tree}
+use Rattle.steps.proofs.Places.{split-used}
 use Rattle.sittings.specs.Sittings.{Open, traced}
 use Rattle.sittings.specs.Entries.{opensIn}
-use Rattle.tracing.proofs.Laws.{traced-multiplied, traced-none, traced-ready, known-by, traced-elsewhere, traced-here, one-left, deleted-work}
+use Rattle.tracing.proofs.Laws.{traced-multiplied, traced-none, traced-ready, known-by, traced-elsewhere, traced-here, on-link, off-link, one-left, deleted-work}
 use borrow.Author.Needs.{needs}
 use borrow.Fn.Kinds.{In}
 use borrow.Fn.PlainCycle.{Measures, is, falls, and}
@@ -34,6 +36,7 @@ use Rattle.network.proofs.assembled.Reads as assembled-reads
 use Rattle.sittings.proofs.is_known.Reads as is-known-reads
 use Rattle.steps.proofs.pieces.Reads as pieces-reads
 use Rattle.steps.proofs.place.Reads as place-reads
+use Rattle.steps.proofs.split_on.Reads as split-on-reads
 use Rattle.steps.proofs.step.Reads as step-reads
 use Rattle.tracing.proofs.+follow.{statement}
 use Rattle.tracing.proofs.+follow.Tie.{close}
@@ -61,6 +64,8 @@ claims t = (
   series-reads.Learnt,
   parallel-reads.Asked,
   parallel-reads.Learnt,
+  split-on-reads.Asked,
+  split-on-reads.Learnt,
   place-reads.Asked,
   place-reads.Learnt,
   is-known-reads.Asked,
@@ -245,24 +250,50 @@ returns-7 t c =
 
 -- ---- a split
 
-enum-known-i : (t : ℕ) → follow-lts.Need-enum-known-i (claims t) (follow-at t) follow.Post
-enum-known-i t c = search needs
+enum-known-c : (t : ℕ) → follow-lts.Need-enum-known-c (claims t) (follow-at t) follow.Post
+enum-known-c t c = search needs
 
-abbrev Split-known : ℕ → Type 0
-Split-known t = follow-lts.After-known-told3 (claims t) (follow-at t) follow.Post
-
-abbrev told : (t : ℕ) → Split-known t → Known t
-told t k = k .before .before .before
-
-abbrev link : (t : ℕ) → Split-known t → ℕ
-link t k = k .before .i .given .0 .0
-
-split-fits : (t : ℕ) (k : Split-known t) → Fitting (net t (told t k)) (Split (link t k))
-split-fits t k = fitting t (told t k) (Splitting _) (k .before .i .given .1)
+-- the chosen link, and the link to split on: of the next open split
+abbrev Chosen-known : ℕ → Type 0
+Chosen-known t = follow-lts.After-known-told3 (claims t) (follow-at t) follow.Post
 
 -- an open split is left, and its numbers are in the row
+some-in-row : (t : ℕ) (k : Chosen-known t) → 3 * place t (k .before .before .before) + 3 ≤ 192
+some-in-row t k = let o = k .before .before .before in omega (arith, o .before .if1 .left, o .before .before .pre .1 .1)
+
+chosen-fits : (t : ℕ) (k : Chosen-known t) → Fitting (net t (k .before .before .before)) (Split (k .before .c .given .0 .0))
+chosen-fits t k = fitting t (k .before .before .before) (Splitting _) (k .before .c .given .1)
+
+split-on-requires : (t : ℕ) → follow-lts.Need-split-on-requires (claims t) (follow-at t) follow.Post
+split-on-requires t c κs = (chosen-fits t c .placed .below, omega (arith, some-in-row t c))
+
+abbrev Split-known : ℕ → Type 0
+Split-known t = follow-lts.After-split-on (claims t) (follow-at t) follow.Post
+
+abbrev told : (t : ℕ) → Split-known t → Known t
+told t k = k .before .before .before .before
+
+abbrev first : (t : ℕ) → Split-known t → ℕ
+first t k = k .before .before .c .given .0 .0
+
+abbrev link : (t : ℕ) → Split-known t → ℕ
+link t k = k .split-on .result
+
+first-fits : (t : ℕ) (k : Split-known t) → Fitting (net t (told t k)) (Split (first t k))
+first-fits t k = chosen-fits t (k .before)
+
 some-left : (t : ℕ) (k : Split-known t) → 3 * place t (told t k) + 3 ≤ 192
-some-left t k = let o = told t k in omega (arith, o .before .if1 .left, o .before .before .pre .1 .1)
+some-left t k = some-in-row t (k .before)
+
+used : (t : ℕ) (k : Split-known t) → Used (net t (told t k)) (link t k)
+used t k = let o = told t k in subst (Used (net t o)) (sym (k .split-on .ensures)) (split-used (net t o) (first t k) (first-fits t k .placed) (row t o) (place t o) (left t o))
+
+split-is : (t : ℕ) (k : Split-known t) → tree (graph t (told t k)) ≡ fork (indexOf (net t (told t k)) (first t k)) (works (net t (told t k)) (workable t (told t k)))
+split-is t k = split-tree (net t (told t k)) (workable t (told t k)) (first t k) (first-fits t k)
+
+-- its place
+on-is : (t : ℕ) (k : Split-known t) → let o = told t k in indexOf (net t o) (link t k) ≡ rank (splitOn (net t o .alive) (first t k) (row t o) (place t o) (left t o)) (members (net t o .alive))
+on-is t k = ap (indexOf (net t (told t k))) (k .split-on .ensures)
 
 mul-if2 : (t : ℕ) → follow-lts.Need-mul-if2 (claims t) (follow-at t) follow.Post
 mul-if2 t c = omega (arith, some-left t c)
@@ -274,14 +305,14 @@ element-copy-out-if2 : (t : ℕ) → follow-lts.Need-element-copy-out-if2 (claim
 element-copy-out-if2 t c = omega (arith, some-left t c)
 
 place-requires : (t : ℕ) → follow-lts.Need-place-requires (claims t) (follow-at t) follow.Post
-place-requires t c κs = split-fits t (c .before) .placed .below
+place-requires t c κs = used t (c .before) .below
 
 returns-2 : (t : ℕ) → follow-lts.Need-returns-2 (claims t) (follow-at t) follow.Post
 returns-2 t c =
     let k = c .before .before .before in
     let o = told t k in
-    same-tree t o _ (split-tree (net t o) (workable t o) _ (split-fits t k))
-    (traced-elsewhere (row t o) (place t o) _ _ _ _ (left t o) (o .before .if1 .left) (λ e. c .if2 .taken (e ∙ sym (c .before .place .ensures))))
+    traced-elsewhere (row t o) (place t o) (split-is t k) (left t o) (o .before .if1 .left)
+    (off-link (net t o .alive) (first t k) (row t o) (place t o) (left t o) (omega (arith, o .before .if1 .left)) (λ e. c .if2 .taken (e ∙ sym (on-is t k) ∙ sym (c .before .place .ensures))))
 
 is-known-requires : (t : ℕ) → follow-lts.Need-is-known-requires (claims t) (follow-at t) follow.Post
 is-known-requires t c κs = let k = c .before .before .before in (omega (arith, some-left t k), told t k .before .before .pre .1 .2)
@@ -307,14 +338,15 @@ abbrev sound : (t : ℕ) → Split-known t → Network → Graph
 sound t k n = contracted (linkOf n (link t k)) (broken t k n)
 
 split-traced : (t : ℕ) (p : Place-known t) (known : Bool) {r : Bool} → p .is-known .result ≡ known
-    → r ≡ traced (elim known [ true ↦ tree (broken t (split-at t p) (net t (told-at t p))) | false ↦ tree (sound t (split-at t p) (net t (told-at t p))) ]) (behind t p)
+    → r ≡ traced (cond known (tree (broken t (split-at t p) (net t (told-at t p)))) (tree (sound t (split-at t p) (net t (told-at t p))))) (behind t p)
     → r ≡ traced (tree (graph t (told-at t p))) (opens t (told-at t p))
 split-traced t p known q h =
     let k = split-at t p in
     let o = told t k in
-    same-tree t o _ (split-tree (net t o) (workable t o) _ (split-fits t k))
-    (h ∙ traced-here (row t o) (place t o) _ _ _ _ (left t o) (o .before .if1 .left) (p .before .if2 .left ∙ p .before .before .place .ensures) known
-    (sym (known-by (row t o) (place t o) (left t o) (o .before .if1 .left)) ∙ sym (p .is-known .ensures) ∙ q))
+    let here = p .before .if2 .left ∙ p .before .before .place .ensures in
+    h ∙ traced-here (row t o) (place t o) (split-is t k) (left t o) (o .before .if1 .left) (split-work (net t o) (workable t o) (first t k) (first-fits t k) (link t k) (used t k)) here
+    (on-link (net t o .alive) (first t k) (row t o) (place t o) (left t o) (omega (arith, o .before .if1 .left)) (here ∙ on-is t k)) known
+    (sym (known-by (row t o) (place t o) (left t o) (o .before .if1 .left)) ∙ sym (p .is-known .ensures) ∙ q)
 
 -- ---- the broken branch
 
@@ -325,7 +357,7 @@ deleted-requires : (t : ℕ) → follow-lts.Need-deleted-requires (claims t) (fo
 deleted-requires t c κs =
     let k = split-at t (c .before .before) in
     let e = c .assembled3 .ensures in
-    (put-together t (told t k) e, moved-fits (sym e) (split-fits t k) .placed)
+    (put-together t (told t k) e, subst (λ (n : Network). Used n (link t k)) (sym e) (used t k))
 
 abbrev Deleted : ℕ → Type 0
 Deleted t = follow-lts.After-deleted (claims t) (follow-at t) follow.Post
@@ -369,7 +401,7 @@ follow-requires-3 t c κs =
     let o = told t k in
     let n = net t o in
     let r = d .deleted .result in (
-      less t o _ (fewer (networkOf n) r (broken-is t d) (broken-below n (workable t o) _ (split-fits t k))),
+      less t o _ (fewer (networkOf n) r (broken-is t d) (broken-below n (workable t o) (first t k) (first-fits t k) (link t k) (used t k))),
       (
         deleted-work n r (workable t o) _ (broken-is t d) (sized-of (d .deleted .lifetimes) r (d .deleted .ok)) (d .deleted .ensures .1) (omega (arith, w .before .pieces .ensures, w .if4 .left)),
         omega (arith, o .before .if1 .left, o .before .before .pre .1 .1),
@@ -390,9 +422,8 @@ unfolding ranked
 contracted-requires t c κs =
     let k = split-at t (c .before .before) in
     let e = c .assembled4 .ensures in
-    let holds = put-together t (told t k) e in
-    let f = moved-fits (sym e) (split-fits t k) in
-    (holds, f .placed, ne-eqb _ _ (known (c .assembled4 .result) holds (Split (link t k)) f .differ))
+    let differ = at-link (net t (told t k)) (workable t (told t k)) (first t k) (first-fits t k) (link t k) (used t k) .differ in
+    (put-together t (told t k) e, subst (λ (n : Network). Used n (link t k)) (sym e) (used t k), subst (λ (n : Network). eqb (linkOf n (link t k) .a) (linkOf n (link t k) .b) ≡ false) (sym e) (ne-eqb _ _ differ))
 
 abbrev Contracted : ℕ → Type 0
 Contracted t = follow-lts.After-contracted (claims t) (follow-at t) follow.Post
@@ -404,7 +435,7 @@ sound-is : (t : ℕ) (l : Contracted t) → networkOf (l .contracted .result) �
 sound-is t l = l .contracted .ensures .0 ∙ ap (sound t (split-at t (running-at t l))) (l .before .assembled4 .ensures)
 
 sound-plainly : (t : ℕ) (k : Split-known t) → Plain (sound t k (net t (told t k)))
-sound-plainly t k = sound-left (net t (told t k)) (workable t (told t k)) (link t k) (split-fits t k)
+sound-plainly t k = sound-left (net t (told t k)) (workable t (told t k)) (first t k) (first-fits t k) (link t k) (used t k)
 
 parallel-requires-2 : (t : ℕ) → follow-lts.Need-parallel-requires-2 (claims t) (follow-at t) follow.Post
 parallel-requires-2 t c κs = (c .contracted .ensures .1, subst Plain (sym (sound-is t c)) (sound-plainly t (split-at t (running-at t c))))
@@ -427,7 +458,7 @@ follow-requires-4 t c κs =
     let o = told t k in
     let n = net t o in
     let r = l .contracted .result in
-    let b = sound-below n (workable t o) _ (split-fits t k) in (
+    let b = sound-below n (workable t o) (first t k) (first-fits t k) (link t k) (used t k) in (
       less t o _ (unpaired-less (sound-plainly t k) r (q .result) (sound-is t l) (q .ensures .0) (networkOf n) b),
       (
         unpaired-work (sound-plainly t k) r (q .result) (sound-is t l) (q .ensures .0) (sized-of (q .lifetimes) (q .result) (q .ok)) (q .ensures .1),
@@ -460,7 +491,8 @@ pub +follow-spec : {M : Type 1} → statement M
     (series-requires t)
     (parallel-requires t)
     (follow-requires-2 t)
-    (enum-known-i t)
+    (enum-known-c t)
+    (split-on-requires t)
     (mul-if2 t)
     (mul-if2-2 t)
     (element-copy-out-if2 t)
