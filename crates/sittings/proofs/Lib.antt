@@ -5,3 +5,5 @@ pub mod Bounds
 pub mod Rows
 pub mod Totals
 pub mod Examples
+pub mod Good
+pub mod GoodSaved
