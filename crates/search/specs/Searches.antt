@@ -1,5 +1,5 @@
 -- Sets of places as lists, the links at their places, and what the searches find.
-use Prim.Native.Nat.{ℕ, zero, suc, _<_}
+use Prim.Native.Nat.{ℕ, zero, suc, _+_, max, _<_}
 use mathlib.Core.Path.{_≡_}
 use mathlib.Core.List.{List, [], _∷_}
 use mathlib.Core.Bool.{Bool, true, false, _&&_, _||_}
@@ -90,3 +90,19 @@ pairIn t (i ∷ is) = elim (filter (t i) is) [ [] ↦ pairIn t is | j ∷ js ↦
 -- the nodes of a set at which there are d links
 abbrev pub withLinks : ℕ → List ℕ → ℕ → List ℕ
 withLinks d at nodes = filter (λ v. eqb (howMany (members (getD at v 0))) d) (nodesIn nodes)
+
+-- counts has the number of links at each node of a set
+abbrev pub Counted : ℕ → List ℕ → List ℕ → Type 0
+Counted nodes at counts = (v : ℕ) → getD (members nodes) v false ≡ true → getD counts v 0 ≡ howMany (members (getD at v 0))
+
+-- the counts of the two ends of the link at k, together
+abbrev pub countSum : List ℕ → List ℕ → List ℕ → ℕ → ℕ
+countSum counts as₁ bs k = getD counts (getD as₁ k 0) 0 + getD counts (getD bs k 0) 0
+
+unfoldable pub most : (ℕ → ℕ) → List ℕ → ℕ
+most sum [] = 0
+most sum (k ∷ ks) = max (sum k) (most sum ks)
+
+-- the first of a list whose sum is the largest: 64 where there is none
+abbrev pub largestIn : (ℕ → ℕ) → List ℕ → ℕ
+largestIn sum ks = getD (filter (λ k. eqb (sum k) (most sum ks)) ks) 0 64

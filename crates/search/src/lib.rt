@@ -1,9 +1,9 @@
 // The searches over the links in use, by place: numbers and arrays alone.
 ghost use mathlib.Core.Path.{_≡_};
-ghost use Prim.Native.Nat.{_^_, _<_};
+ghost use Prim.Native.Nat.{_+_, _^_, _<_};
 ghost use lib.Dec.{eqb, leb};
 ghost use Rattle.bits.specs.Members.{members, howMany};
-ghost use Rattle.search.specs.Searches.{placesIn, Incidence, Bounded, found, loops, beside, pairIn, withLinks};
+ghost use Rattle.search.specs.Searches.{placesIn, Incidence, Bounded, found, loops, beside, pairIn, withLinks, Counted, countSum, largestIn};
 
 pub enum Found {
     At(usize),
@@ -88,4 +88,45 @@ pub fn lowest_with(d: u32, nodes: u64, at: &[u64; 32]) -> Found
         t = bits::without_lowest(t);
     }
     Found::Nothing
+}
+
+// How many links each of the nodes has.
+pub fn counts(nodes: u64, at: &[u64; 32]) -> [u8; 32]
+    requires { ⌜ nodes < 2 ^ 32 ⌝ }
+    ensures { λ r. ⌜ Counted nodes (now (at .entry)) r ⌝ }
+{
+    let mut counts = [0u8; 32];
+    let mut t = nodes;
+    while t != 0 {
+        let v = bits::lowest(t);
+        counts[v] = bits::count(at[v]) as u8;
+        t = bits::without_lowest(t);
+    }
+    counts
+}
+
+fn together(x: u8, y: u8) -> u32
+    ensures { λ r. ⌜ r ≡ x + y ⌝ }
+{
+    (x as u32) + (y as u32)
+}
+
+// The first of the links whose two ends have the most links together: 64 where there is none.
+pub fn largest_sum<'r>(alive: u64, counts: &'r [u8; 32], a: &'r [u8; 64], b: &'r [u8; 64]) -> usize
+    requires { ⌜ Bounded alive (now a) (now b) ⌝ }
+    ensures { λ r. ⌜ r ≡ largestIn (countSum (now (counts .entry)) (now (a .entry)) (now (b .entry))) (placesIn alive) ⌝ }
+{
+    let mut best = bits::lowest(alive);
+    let mut most = 0;
+    let mut t = alive;
+    while t != 0 {
+        let k = bits::lowest(t);
+        let sum = together(counts[a[k] as usize], counts[b[k] as usize]);
+        if most < sum {
+            most = sum;
+            best = k;
+        }
+        t = bits::without_lowest(t);
+    }
+    best
 }

@@ -1,16 +1,19 @@
 -- For the engine: what each branch of a split sets aside, and what the split writes.
 use Prim.Native.Nat.{ℕ, zero, suc, _-_, _*_, _<_}
-use mathlib.Core.Path.{_≡_, refl, sym, ap, ap₂, _∙_}
+use mathlib.Core.Path.{_≡_, refl, sym, ap, ap₂, _∙_, subst}
 use mathlib.Core.List.{List, [], _∷_}
-use mathlib.Core.Bool.{Bool, true, false, _&&_, and-eq-true-iff}
+use mathlib.Core.Bool.{Bool, true, false, cond, _&&_, and-eq-true-iff}
 use native.Mathlib.Omega.{arith}
 use lib.ListN.{length, set}
 use lib.Seq.{sets, set-comm}
 use Rattle.reliability.specs.declared.Link.{Link}
 use Rattle.reliability.specs.declared.Figure.{Figure}
-use Rattle.reliability.specs.Networks.{Network}
-use Rattle.reliability.specs.Rule.{chosen, stepAt, Remainder, settled, rest, scaled, branches, Tree, ready, multiplied, fork, taken, grown, treeOf, tree, run}
+use Rattle.reliability.specs.Networks.{Network, Valid as NetworkValid}
+use Rattle.reliability.specs.Rule.{chosen, stepAt, Remainder, settled, rest, scaled, branches, Tree, ready, multiplied, fork, taken, grown, isSplit, treeOf, tree, run}
+use Rattle.reliability.proofs.Lawful.{Leaves, View, Sized, Lawful, Choice}
 use Rattle.reliability.proofs.Runs.{all-taken}
+use Rattle.reliability.proofs.Steps.{view, chosen-link}
+use Rattle.reliability.proofs.Enclosure.{lawful as law}
 use Rattle.sittings.specs.Sittings.{Open, running, known, sides, opens, aside}
 use Rattle.sittings.specs.Entries.{entries, ownEntry, ownCount}
 use Rattle.sittings.proofs.Own.{own-done, own-known, own-running}
@@ -23,19 +26,19 @@ pub aside-open : (t : Tree) (l : ℕ) → run t l .finished ≡ false → aside 
 unfolding aside
 aside-open t l e = ap (λ c. elim c as (λ x. List Open) [ true ↦ [] | false ↦ opens t l ]) e
 
--- ---- trees without a taken split
+-- ---- trees that begin with no taken split
 
 abbrev pub Fresh : Tree → Type 0
 Fresh (ready k) = Unit {0}
 Fresh (multiplied k t) = Fresh t
-Fresh (fork i e s b) = Fresh s × Fresh b
+Fresh (fork i w) = Unit {0}
 Fresh (taken i e s b) = ⊥
 
 pub opens-none : (t : Tree) → Fresh t → opens t 0 ≡ []
 unfolding opens
 opens-none (ready k) h = refl
 opens-none (multiplied k t) h = opens-none t h
-opens-none (fork i e s b) h = refl
+opens-none (fork i w) h = refl
 opens-none (taken i e s b) h = absurd h
 
 -- under no limit they set nothing aside
@@ -47,20 +50,22 @@ aside-none t h = go (run t 0 .finished)
     go true = refl
     go false = opens-none t h
 
-grown-fresh : {N : Type 0} (i : ℕ) (grow : N → Tree) → ((h : N) → Fresh (grow h)) → (r : Remainder N) → Fresh (grown grow i r)
-unfolding grown
-grown-fresh i grow each (settled k) = tt
-grown-fresh i grow each (rest h) = each h
-grown-fresh i grow each (scaled k h) = each h
-grown-fresh i grow each (branches e x y) = (each x, each y)
+module _ {N : Type 0} (Valid : N → Type 0) (μ : View N) (step : ℕ → N → Remainder N) (lawful : Lawful Valid μ step) (choose : N → ℕ) (choice : Choice μ choose) where
+  grown-fresh : (m : ℕ) → ((h : N) → Sized Valid μ m h → Fresh (treeOf step choose m h)) → (i : ℕ) (w : ℕ → Tree) (r : Remainder N) → Leaves (Sized Valid μ m) r
+      → Fresh (cond (isSplit r) (fork i w) (grown (treeOf step choose m) i r))
+  unfolding grown
+  grown-fresh m each i w (settled k) l = tt
+  grown-fresh m each i w (rest h) l = each h l
+  grown-fresh m each i w (scaled k h) l = each h (l .0)
+  grown-fresh m each i w (branches e x y) l = tt
 
-pub fresh-of : {N : Type 0} (step : ℕ → N → Remainder N) (choose : N → ℕ) (m : ℕ) (g : N) → Fresh (treeOf step choose m g)
-unfolding treeOf
-fresh-of step choose zero g = grown-fresh (choose g) (λ h. ready (λ d. 0)) (λ h. tt) (step (choose g) g)
-fresh-of step choose (suc m) g = grown-fresh (choose g) (treeOf step choose m) (fresh-of step choose m) (step (choose g) g)
+  fresh-of : (m : ℕ) (g : N) → Sized Valid μ m g → Fresh (treeOf step choose m g)
+  unfolding treeOf grown
+  fresh-of zero g h = subst (λ (r : Remainder N). Fresh (grown (λ h. ready (λ d. 0)) (choose g) r)) (sym (lawful .none-left g h (choose g) .2)) tt
+  fresh-of (suc m) g h = grown-fresh m (fresh-of m) (choose g) _ (step (choose g) g) (lawful .left m g h (choose g) (choice g))
 
-pub tree-fresh : (g : Network) → Fresh (tree g)
-tree-fresh g = fresh-of stepAt chosen (length (g .links)) g
+pub tree-fresh : (g : Network) → NetworkValid g → Fresh (tree g)
+tree-fresh g valid = fresh-of NetworkValid view stepAt law chosen chosen-link (length (g .links)) g (record { valid = valid; size = refl })
 
 -- ---- a taken split
 
@@ -98,9 +103,9 @@ module _ (i : ℕ) (p : Link) (s b : Tree) (l : ℕ) where
   broken-none h e = ap (aside b) (none-left e) ∙ aside-none b h
 
 -- a split that is taken now sets aside what it does once it is taken
-pub taken-now : (i : ℕ) (p : Link) (s b : Tree) (l : ℕ) → aside (fork i p s b) (suc l) ≡ aside (taken i p s b) l
+pub taken-now : (i : ℕ) (w : ℕ → Tree) (l : ℕ) → aside (fork i w) (suc l) ≡ aside (w i) l
 unfolding aside run opens
-taken-now i p s b l = refl
+taken-now i w l = refl
 
 -- ---- what a split writes
 

@@ -3,6 +3,7 @@ pub mod Own
 pub mod Asides
 pub mod Bounds
 pub mod Rows
+pub mod Opened
 pub mod Totals
 pub mod Examples
 pub mod Good

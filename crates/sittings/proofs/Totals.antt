@@ -17,8 +17,8 @@ use Rattle.reliability.proofs.Runs.{steps, finished, all-taken, stays}
 use Rattle.reliability.proofs.Theorems.{low-high, high-range}
 use Rattle.sittings.specs.Sittings.{Open, opens, resumed, traced, Saved, begun, complete, Sitting, nothing, most, keeping, sitting, savedAfter}
 use Rattle.sittings.specs.Entries.{Known, InRange, InOrder}
-use Rattle.sittings.proofs.Sittings.{more-zero, two-figure, two-opens}
-use Rattle.sittings.proofs.Bounds.{opens-depth, traced-opens, tree-depth, tree-ordered, tree-in-range}
+use Rattle.sittings.proofs.Sittings.{more-zero, Formed, two-figure, two-opens}
+use Rattle.sittings.proofs.Bounds.{tree-formed}
 
 more-more : (n k : ℕ) (f : Figure) → more (n + k) f ≡ more n (more k f)
 more-more n k f = λ i. record { low = f .low; high = f .high; steps = add-assoc n k (f .steps) i; finished = f .finished }
@@ -26,7 +26,7 @@ more-more n k f = λ i. record { low = f .low; high = f .high; steps = add-assoc
 abbrev kept : Figure → Saved → Sitting
 kept f s = record { answer = f; saved = s }
 
-module _ (t : Tree) where
+module _ (t : Tree) (formed : Formed t) where
   module _ (os : List Open) (n l k : ℕ) where
     abbrev u : Tree
     u = resumed t os
@@ -54,8 +54,8 @@ module _ (t : Tree) where
         let l₂ = min k (most - (n + f₁ .steps)) in
         let sum : l₁ + l₂ ≡ longer = omega (arith, all-taken u l₁ e) in
         ap₂ (λ (f : Figure) (o : List Open). kept f (keeping f o))
-        (more-more n (f₁ .steps) (run (resumed t (opens u l₁)) l₂) ∙ ap (more n) (two-figure t os l₁ l₂ ∙ ap (run u) sum))
-        (two-opens t os l₁ l₂ ∙ ap (opens u) sum)
+        (more-more n (f₁ .steps) (run (resumed t (opens u l₁)) l₂) ∙ ap (more n) (two-figure t formed os l₁ l₂ ∙ ap (run u) sum))
+        (two-opens t formed os l₁ l₂ ∙ ap (opens u) sum)
 
   -- two sittings are one
   pub two : (s : Saved) (l k : ℕ) → sitting t (sitting t s l .saved) k ≡ sitting t s (l + k)
@@ -84,15 +84,15 @@ capped g n =
     let same : min n most ≡ min (min n most) most = omega arith in
     ap (λ j. kept (more 0 (run (tree g) j)) (keeping (more 0 (run (tree g) j)) (opens (tree g) j))) same
 
-module _ (g : Network) (ls : List ℕ) (k : ℕ) where
+module _ (g : Network) (valid : Valid g) (ls : List ℕ) (k : ℕ) where
   -- the rule's figure under the total, or under a million steps
   pub total-figure : sitting (tree g) (savedAfter (tree g) nothing ls) k .answer ≡ figure g (min (altogether ls + k) most)
   unfolding sitting resumed
-  total-figure = ap (λ (s : Sitting). s .answer) (totals (tree g) nothing ls k) ∙ more-zero (run (tree g) (min (altogether ls + k) most))
+  total-figure = ap (λ (s : Sitting). s .answer) (totals (tree g) (tree-formed g valid) nothing ls k) ∙ more-zero (run (tree g) (min (altogether ls + k) most))
 
   -- and what one such sitting sets aside
   pub total-saved : sitting (tree g) (savedAfter (tree g) nothing ls) k .saved ≡ sitting (tree g) nothing (min (altogether ls + k) most) .saved
-  total-saved = ap (λ (s : Sitting). s .saved) (totals (tree g) nothing ls k ∙ capped g (altogether ls + k))
+  total-saved = ap (λ (s : Sitting). s .saved) (totals (tree g) (tree-formed g valid) nothing ls k ∙ capped g (altogether ls + k))
 
 pub first-figure : (g : Network) (limit : ℕ) → limit ≤ most → sitting (tree g) nothing limit .answer ≡ figure g limit
 unfolding sitting resumed
@@ -125,58 +125,3 @@ module _ (t : Tree) (os : List Open) (n limit : ℕ) (h : n ≤ most) where
   -- never past the most steps, nor past the limit in this sitting
   pub at-most : (answer .steps ≤ most) × (answer .steps ≤ n + limit)
   at-most = let e = carried-steps in (omega arith, omega arith)
-
--- ---- what sittings from nothing leave
-
--- open splits and steps so far
-pub record Begun (g : Network) (os : List Open) (n : ℕ) : Type 0 where
-  pub traces : traced (tree g) os ≡ true
-  pub in-order : Known InOrder os
-  pub in-range : Known InRange os
-  pub few : length os ≤ length (g .links)
-  pub within : n ≤ most
-
--- the answer: the figure under some limit
-pub record Complete (g : Network) (f : Figure) : Type 0 where
-  pub limit : ℕ
-  pub within : limit ≤ most
-  pub same : f ≡ figure g limit
-  pub order : f .low ≤ f .high
-  pub range : f .high ≤ S
-  pub few : f .steps ≤ most
-
-abbrev pub Fits : Network → Saved → Type 0
-Fits g (begun os n) = Begun g os n
-Fits g (complete f) = Complete g f
-
-module _ (g : Network) (valid : Valid g) where
-  pub nothing-fits : Fits g nothing
-  unfolding traced
-  nothing-fits = record { traces = refl; in-order = tt; in-range = tt; few = zero-le; within = zero-le }
-
-  one-fits : (limit : ℕ) → Fits g (sitting (tree g) nothing limit .saved)
-  unfolding sitting resumed
-  one-fits limit = go (run (tree g) j .finished)
-    where
-      j : ℕ
-      j = min limit most
-
-      go : (c : Bool) → Fits g (elim c [ true ↦ complete (more 0 (run (tree g) j)) | false ↦ begun (opens (tree g) j) (0 + run (tree g) j .steps) ])
-      go true =
-          let e = steps (tree g) j in
-          record { limit = j; within = omega arith; same = more-zero (run (tree g) j); order = low-high g valid j; range = high-range g valid j; few = omega arith }
-      go false =
-          let e = steps (tree g) j in
-          record {
-            traces = traced-opens (tree g) j;
-            in-order = tree-ordered g valid j;
-            in-range = tree-in-range g valid j;
-            few = le-trans (opens-depth (tree g) j) (tree-depth g valid);
-            within = omega arith;
-          }
-
-  -- so what is saved passes every check of saved work again
-  pub saved-fits : (ls : List ℕ) → Fits g (savedAfter (tree g) nothing ls)
-  unfolding savedAfter
-  saved-fits [] = nothing-fits
-  saved-fits (l ∷ ls) = subst (Fits g) (sym (saved-one (tree g) nothing l ls)) (one-fits (altogether (l ∷ ls)))

@@ -1,5 +1,5 @@
 -- What is known of links and branches where a step is worked on a network by value.
-use Prim.Native.Nat.{ℕ, _≤_, _<_, zero-le, suc-le-suc}
+use Prim.Native.Nat.{ℕ, _-_, min, _≤_, _<_, zero-le, suc-le-suc}
 use mathlib.Core.Path.{_≡_, sym, ap, _∙_, subst}
 use mathlib.Core.List.{List, [], _∷_, map}
 use mathlib.Core.Bool.{Bool, true, false}
@@ -8,7 +8,7 @@ use native.Mathlib.Omega.{arith}
 use mathlib.Core.Option.{some, Option·map}
 use lib.Dec.{eqb, leb}
 use lib.ListN.{length, getD, set}
-use borrow.Author.Tests.{le-leb, lt-leb}
+use borrow.Author.Tests.{eqb-false, le-leb, lt-leb}
 use Rattle.rounding.specs.Rounding.{S, factor}
 use Rattle.rounding.specs.declared.Direction.the-variants.{Down, Up}
 use Rattle.bits.specs.Members.{members, howMany}
@@ -16,11 +16,13 @@ use Rattle.reliability.specs.declared.Link.{Link}
 use Rattle.reliability.specs.declared.Step.{Step}
 use Rattle.reliability.specs.declared.Step.the-variants.{OneNode, End, Series, Split}
 use Rattle.reliability.specs.Networks.{Network as Graph, Valid, value, ends, connected, pieces, piecesOf}
-use Rattle.reliability.specs.Rule.{isLoop, firstAt, lowest, endOf, seriesOf, chosen, when, _otherwise_, next, leaves, removed, deleted, joined, inSeries, contracted, ready, multiplied, fork, tree}
+use Rattle.reliability.specs.Rule.{isLoop, firstAt, lowest, endOf, seriesOf, chosen, when, _otherwise_, next, leaves, removed, deleted, joined, inSeries, contracted, ready, Tree, multiplied, fork, taken, tree}
 use Rattle.reliability.specs.Simple.{Loopless, Plain, Simple, unpaired, withoutLoops}
 use Rattle.reliability.proofs.Validity.{proper-at, deleted-valid}
-use Rattle.reliability.proofs.Unrolled.{Below, tree-settled, tree-scaled, tree-branches, below-scaled, below-sound, below-broken}
-use Rattle.reliability.proofs.Steps.{split-chosen}
+use Rattle.reliability.proofs.Unrolled.{Below, tree-settled, tree-scaled, workAt, tree-split, below-scaled, below-branches}
+use Rattle.reliability.proofs.Steps.{AtSplit, split-there}
+use Rattle.reliability.proofs.Lists.{getD-mem}
+use Rattle.reliability.proofs.Searches.{none-found}
 use Rattle.reliability.proofs.Simple.{simple-next, connected-pieces-few, apart-tree, unpaired-simple, unpaired-tree, unpaired-fewer, unlooped-tree, unlooped-loopless, end-simple, series-plain, contracted-plain, deleted-simple}
 use Rattle.search.specs.declared.Found.the-variants.{At, Nothing}
 use Rattle.search.specs.Searches.{pick, placesIn, endsIn, found, loops}
@@ -176,56 +178,73 @@ module _ (n : Network) (work : Workable n) where
     unfolding leaves ranked
     series-tree = tree-scaled g (work .holds .valid) _ _ (rule (Series v i j) f)
 
+  -- the work once a split is taken, by the place of its link
+  abbrev pub works : ℕ → Tree
+  works p = workAt g (work .holds .valid) (min p (length (g .links) - 1))
+
   module _ (i : ℕ) (f : Fitting n (Split i)) where
-    abbrev broken : Graph
-    broken = deleted (indexOf n i) g
-
-    pub sound-left : Plain (contracted (linkOf n i) broken)
+    -- a split, still to take
+    pub split-tree : tree g ≡ fork (indexOf n i) works
     unfolding ranked
-    sound-left = contracted-plain g (work .simple) (indexOf n i) (known n (work .holds) (Split i) f)
-
-    pub sound-below : Below g (contracted (linkOf n i) broken)
-    unfolding leaves ranked
-    sound-below = below-sound g (work .holds .valid) _ _ _ (rule (Split i) f)
-
-    pub broken-below : Below g broken
-    unfolding leaves ranked
-    broken-below = below-broken g (work .holds .valid) _ _ _ (rule (Split i) f)
-
-    pub split-tree : tree g ≡ fork (indexOf n i) (linkOf n i) (tree (contracted (linkOf n i) broken)) (tree broken)
-    unfolding leaves ranked
     split-tree =
-        tree-branches g (work .holds .valid) _ _ _ (rule (Split i) f)
-        ∙ ap (λ (p : ℕ). fork p (linkOf n i) (tree (contracted (linkOf n i) broken)) (tree broken)) (sym (split-chosen g (indexOf n i) (sym (f .by-rule))))
+        let e = sym (f .by-rule) in
+        tree-split g (work .holds .valid) (indexOf n i) e ∙ ap (λ (p : ℕ). fork p works) (sym (split-there (chosen g) g (indexOf n i) e))
 
-    -- the network without link i, by value
-    module _ (e : Link) (is : e ≡ rowOf (n .a) (n .b) (n .low) (n .high) i) (others : ℕ) (one two : List ℕ) (cleared : members others ≡ set (members (n .alive)) i false)
-        (first : Written false (e .a) i (n .at) one) (second : Written false (e .b) i one two) where
-      abbrev r : Network
-      r = record { alive = others; at = two; low = n .low; high = n .high; a = n .a; b = n .b; nodes = n .nodes }
+    -- it is taken on link q, the chosen one or another
+    module _ (q : ℕ) (used : Used n q) where
+      abbrev broken : Graph
+      broken = deleted (indexOf n q) g
 
-      pub broken-is : (networkOf r ≡ broken) × Invariant r
-      broken-is = deletes n (work .sized) (work .holds) i (f .placed) others one two cleared
-          (subst (λ (l : Link). Written false (l .a) i (n .at) one) is first) (subst (λ (l : Link). Written false (l .b) i one two) is second)
+      pub at-link : AtSplit g (indexOf n q)
+      at-link =
+          let place = index-within n (work .sized) q used in
+          let e = linkOf n q in
+          record { place = place; differ = eqb-false (e .a) (e .b) (none-found isLoop (linksOf n) .0 (work .simple .plain .loopless) e (getD-mem (linksOf n) _ place)) }
 
-      pub broken-sized : Sized r
-      broken-sized = record {
-        nodes = work .sized .nodes;
-        at-length = second .size ∙ first .size ∙ work .sized .at-length;
-        a-length = work .sized .a-length;
-        b-length = work .sized .b-length;
-        low-length = work .sized .low-length;
-        high-length = work .sized .high-length;
-      }
+      pub split-work : works (indexOf n q) ≡ taken (indexOf n q) (linkOf n q) (tree (contracted (linkOf n q) broken)) (tree broken)
+      split-work = ap (workAt g (work .holds .valid)) (let e : min (indexOf n q) (length (g .links) - 1) ≡ indexOf n q = omega (arith, at-link .place) in e)
 
-      module _ (k : ℕ) (count : k ≡ pieces (nodesOf r) (endsIn others (n .a) (n .b))) where
-        counted : (b : Bool) → leb k 1 ≡ b → connected (broken .nodes) (map ends (broken .links)) ≡ b
-        counted b h =
-            connected-pieces-few broken
-            ∙ ap (λ (x : ℕ). leb x 1) (sym (ap piecesOf (broken-is .0)) ∙ ap (pieces (nodesOf r)) (links-ends r broken-sized) ∙ sym count) ∙ h
+      pub sound-left : Plain (contracted (linkOf n q) broken)
+      sound-left = contracted-plain g (work .simple) (indexOf n q) at-link
 
-        pub broken-apart : 1 < k → tree broken ≡ ready (λ d. 0)
-        broken-apart h = apart-tree broken (deleted-valid g (work .holds .valid) (indexOf n i)) (counted false (lt-leb k 1 h))
+      below-both : Below g (contracted (linkOf n q) broken) × Below g broken
+      unfolding ranked
+      below-both = below-branches g (work .holds .valid) (indexOf n i) (sym (f .by-rule)) (indexOf n q) (at-link .place)
 
-        pub broken-work : k ≤ 1 → Workable r
-        broken-work h = record { sized = broken-sized; holds = broken-is .1; simple = subst Simple (sym (broken-is .0)) (deleted-simple g (work .simple) (indexOf n i) (counted true (le-leb k 1 h))) }
+      pub sound-below : Below g (contracted (linkOf n q) broken)
+      sound-below = below-both .0
+
+      pub broken-below : Below g broken
+      broken-below = below-both .1
+
+      -- the network without link q, by value
+      module _ (e : Link) (is : e ≡ rowOf (n .a) (n .b) (n .low) (n .high) q) (others : ℕ) (one two : List ℕ) (cleared : members others ≡ set (members (n .alive)) q false)
+          (first : Written false (e .a) q (n .at) one) (second : Written false (e .b) q one two) where
+        abbrev r : Network
+        r = record { alive = others; at = two; low = n .low; high = n .high; a = n .a; b = n .b; nodes = n .nodes }
+
+        pub broken-is : (networkOf r ≡ broken) × Invariant r
+        broken-is = deletes n (work .sized) (work .holds) q used others one two cleared
+            (subst (λ (l : Link). Written false (l .a) q (n .at) one) is first) (subst (λ (l : Link). Written false (l .b) q one two) is second)
+
+        pub broken-sized : Sized r
+        broken-sized = record {
+          nodes = work .sized .nodes;
+          at-length = second .size ∙ first .size ∙ work .sized .at-length;
+          a-length = work .sized .a-length;
+          b-length = work .sized .b-length;
+          low-length = work .sized .low-length;
+          high-length = work .sized .high-length;
+        }
+
+        module _ (k : ℕ) (count : k ≡ pieces (nodesOf r) (endsIn others (n .a) (n .b))) where
+          counted : (b : Bool) → leb k 1 ≡ b → connected (broken .nodes) (map ends (broken .links)) ≡ b
+          counted b h =
+              connected-pieces-few broken
+              ∙ ap (λ (x : ℕ). leb x 1) (sym (ap piecesOf (broken-is .0)) ∙ ap (pieces (nodesOf r)) (links-ends r broken-sized) ∙ sym count) ∙ h
+
+          pub broken-apart : 1 < k → tree broken ≡ ready (λ d. 0)
+          broken-apart h = apart-tree broken (deleted-valid g (work .holds .valid) (indexOf n q)) (counted false (lt-leb k 1 h))
+
+          pub broken-work : k ≤ 1 → Workable r
+          broken-work h = record { sized = broken-sized; holds = broken-is .1; simple = subst Simple (sym (broken-is .0)) (deleted-simple g (work .simple) (indexOf n q) (counted true (le-leb k 1 h))) }

@@ -7,7 +7,7 @@ ghost use Rattle.bits.specs.Members.{members};
 ghost use Rattle.reliability.specs.Simple.{withoutLoops};
 ghost use Rattle.reliability.specs.Networks.{piecesOf};
 ghost use Rattle.network.specs.Places.{rank, networkOf, Invariant, Fitting, assembled};
-ghost use Rattle.steps.specs.Simple.{Workable, stepOf};
+ghost use Rattle.steps.specs.Simple.{Workable, stepOf, splitOn};
 
 // The step that fits a simple network: one node is left, an end, two links in series, or a split.
 pub enum Next {
@@ -23,6 +23,21 @@ pub fn place(alive: u64, i: usize) -> u32
     ensures { λ r. ⌜ r ≡ rank i (members alive) ⌝ }
 {
     bits::count(bits::meet(alive, bits::full(i as u64)))
+}
+
+// The link to split on: with splits left over, that of the open split at place k of the row, which is the chosen link i or the first one;
+// else the chosen link.
+pub fn split_on(alive: u64, i: usize, row: &[u32; 192], k: usize, left: usize) -> usize
+    requires { ⌜ (i < 64) × (k < 64) ⌝ }
+    ensures { λ r. ⌜ r ≡ splitOn alive i (now (row .entry)) k left ⌝ }
+{
+    if left == 0 {
+        return i;
+    }
+    if row[3 * k] == place(alive, i) {
+        return i;
+    }
+    bits::lowest(alive)
 }
 
 // The network without its loops: step 1 as often as it fits.

@@ -2,7 +2,7 @@
 use Prim.Native.Nat.{ℕ, zero, suc, _+_, _-_, _*_, _≤_}
 use mathlib.Core.Path.{_≡_, refl, sym, ap, ap₂, _∙_, subst}
 use mathlib.Core.List.{List, [], _∷_}
-use mathlib.Core.Bool.{Bool, true, false, not, _&&_}
+use mathlib.Core.Bool.{Bool, true, false, cond, not, _&&_, _||_}
 use mathlib.Core.Option.{none}
 use native.Mathlib.Numerals.{add-one}
 use native.Mathlib.Omega.{arith}
@@ -12,15 +12,16 @@ use borrow.Author.Tests.{eq-eqb, ne-eqb, le-leb}
 use Rattle.rounding.specs.declared.Direction.{Direction}
 use Rattle.reliability.specs.declared.Link.{Link}
 use Rattle.reliability.specs.Networks.{piecesOf}
-use Rattle.reliability.specs.Rule.{deleted, Tree, ready, multiplied, fork}
+use Rattle.reliability.specs.Rule.{deleted, Tree, ready, multiplied, fork, taken}
 use Rattle.reliability.specs.Simple.{Simple}
 use Rattle.reliability.proofs.Lists.{by-eqb}
 use Rattle.reliability.proofs.Simple.{connected-pieces-few, deleted-simple}
 use Rattle.network.specs.declared.Network.{Network}
 use Rattle.network.specs.Places.{networkOf, indexOf, Invariant, Sized}
 use Rattle.steps.specs.Simple.{Workable}
-use Rattle.sittings.specs.Sittings.{Open, running, known, traced}
-use Rattle.sittings.specs.Entries.{pair, entered, opensIn}
+use Rattle.sittings.specs.Sittings.{Open, traced}
+use Rattle.sittings.specs.Entries.{opensIn}
+use Rattle.sittings.proofs.Opened.{openBy, fork-open, taken-open}
 
 -- ---- open splits
 
@@ -49,34 +50,33 @@ module _ (row : List ℕ) (k : ℕ) where
   pub known-by : (left : ℕ) → (left ≡ 0 → ⊥) → (not (eqb left 0) && isKnown) ≡ isKnown
   known-by left h = ap (λ (t : Bool). not t && isKnown) (ne-eqb left 0 h)
 
-  module _ (i : ℕ) (e : Link) (s b : Tree) where
-    -- the branch in which the next one lies
-    abbrev branch : Bool → Tree
-    branch t = elim t [ true ↦ b | false ↦ s ]
+  -- a split that is still to take, c the chosen place
+  module _ {t : Tree} {c : ℕ} {w : ℕ → Tree} (is : t ≡ fork c w) where
+    -- the branch behind the next open split, where it is taken
+    abbrev followed : Bool → ℕ → Bool
+    followed kn left = traced (w here) (openBy row k kn ∷ opensIn row (k + 1) (left - 1))
 
-    abbrev first : Bool → Open
-    first t = elim t [ true ↦ known here (pair (getD row (3 * k + 1) 0) (getD row (3 * k + 2) 0)) | false ↦ running here ]
-
-    split : (t : Bool) (os : List Open) → (eqb here i && traced (branch t) os) ≡ traced (fork i e s b) (first t ∷ os)
-    unfolding traced
-    split true os = refl
-    split false os = refl
-
-    traced-fork : (left : ℕ) → (left ≡ 0 → ⊥) → (eqb here i && traced (branch isKnown) (opensIn row (k + 1) (left - 1))) ≡ traced (fork i e s b) (opensIn row k left)
-    unfolding opensIn entered
-    traced-fork zero h = absurd (h refl)
-    traced-fork (suc n) h =
+    traced-fork : (left : ℕ) → (left ≡ 0 → ⊥) → (kn : Bool) → isKnown ≡ kn → ((eqb here 0 || eqb here c) && followed kn left) ≡ traced t (opensIn row k left)
+    unfolding opensIn
+    traced-fork zero h kn q = absurd (h refl)
+    traced-fork (suc n) h kn q =
         let less : suc n - 1 ≡ n = omega arith in
-        ap₂ (λ (j m : ℕ). eqb here i && traced (branch isKnown) (opensIn row j m)) (add-one k) less ∙ split isKnown (opensIn row (suc k) n)
+        ap₂ (λ (j m : ℕ). (eqb here 0 || eqb here c) && traced (w here) (openBy row k kn ∷ opensIn row j m)) (add-one k) less ∙ sym (fork-open is row k (opensIn row (suc k) n) kn (sym q))
 
     module _ (left : ℕ) (h : left ≡ 0 → ⊥) where
-      pub traced-elsewhere : (here ≡ i → ⊥) → false ≡ traced (fork i e s b) (opensIn row k left)
-      traced-elsewhere other = ap (λ (t : Bool). t && traced (branch isKnown) (opensIn row (k + 1) (left - 1))) (sym (ne-eqb here i other)) ∙ traced-fork left h
+      -- neither the first link's place nor the chosen one
+      pub traced-elsewhere : (eqb here 0 || eqb here c) ≡ false → false ≡ traced t (opensIn row k left)
+      traced-elsewhere other = ap (λ (x : Bool). x && followed isKnown left) (sym other) ∙ traced-fork left h isKnown refl
 
-      pub traced-here : here ≡ i → (t : Bool) → isKnown ≡ t → traced (branch t) (opensIn row (k + 1) (left - 1)) ≡ traced (fork i e s b) (opensIn row k left)
-      traced-here at t q =
-          ap (λ (u : Bool). traced (branch u) (opensIn row (k + 1) (left - 1))) (sym q)
-          ∙ ap (λ (u : Bool). u && traced (branch isKnown) (opensIn row (k + 1) (left - 1))) (sym (eq-eqb here i at)) ∙ traced-fork left h
+      pub traced-here : {i : ℕ} {e : Link} {s b : Tree} → w i ≡ taken i e s b → here ≡ i → (eqb here 0 || eqb here c) ≡ true → (kn : Bool) → isKnown ≡ kn
+          → traced (cond kn b s) (opensIn row (k + 1) (left - 1)) ≡ traced t (opensIn row k left)
+      traced-here {i} {e} {s} {b} work place either kn q =
+          let os = opensIn row (k + 1) (left - 1) in
+          ap (λ (x : Bool). x && traced (cond kn b s) os) (sym (eq-eqb here i place))
+          ∙ sym (taken-open i e s b row k os kn)
+          ∙ ap (λ (u : Tree). traced u (openBy row k kn ∷ os)) (sym (ap w place ∙ work))
+          ∙ ap (λ (x : Bool). x && followed kn left) (sym either)
+          ∙ traced-fork left h kn q
 
 -- one is left: none behind it
 pub one-left : (left : ℕ) → (left ≡ 0 → ⊥) → eqb left 1 ≡ eqb (left - 1) 0

@@ -1,0 +1,96 @@
+-- The search for the largest sum, and the counts of the nodes, turn by turn.
+use Prim.Native.Nat.{ℕ, zero, suc, max, _^_, _≤_, _<_}
+use mathlib.Core.Path.{_≡_, refl, sym, ap, ap₂, _∙_}
+use mathlib.Core.List.{List, [], _∷_}
+use mathlib.Core.Bool.{Bool, true, false, cond, not, _&&_}
+use native.Mathlib.Omega.{arith}
+use lib.Dec.{eqb, leb}
+use lib.ListN.{length, getD, set}
+use lib.Seq.{getD-set-same, getD-set-other}
+use borrow.Author.Tests.{eq-eqb, ne-eqb, le-leb, lt-leb, leb-true, leb-false}
+use Rattle.bits.specs.Members.{digits, members, firstOf, howMany}
+use Rattle.reliability.proofs.Lists.{by-eqb, filter-here, filter-past}
+use Rattle.search.specs.Searches.{placesIn, filter, most, largestIn}
+use Rattle.search.proofs.Sets.{has, has-without}
+use Rattle.search.proofs.Marks.{indices, Lowest, lowest-of, lowest-below, lowest-first, none-listed}
+
+first-none : firstOf (members 0) ≡ 64
+unfolding digits
+first-none = refl
+
+-- ---- the counts
+
+pub count-most : (bs : List Bool) → howMany bs ≤ length bs
+count-most [] = omega arith
+count-most (true ∷ bs) = omega (arith, count-most bs)
+count-most (false ∷ bs) = omega (arith, count-most bs)
+
+-- a turn: the count of the lowest node k of t is written, and r is the rest of t
+pub count-turn : (counts : List ℕ) (count : ℕ → ℕ) (t k : ℕ) → Lowest t k → (r : ℕ) → members r ≡ set (members t) (firstOf (members t)) false → (v : ℕ)
+    → k < length counts → {x : ℕ} → x ≡ count k → (has t v ≡ false → getD counts v 0 ≡ count v) → has r v ≡ false → getD (set counts k x) v 0 ≡ count v
+count-turn counts count t k l r rest v h {x} is before gone =
+    by-eqb (λ b. (not b && has t v) ≡ false → getD (set counts k x) v 0 ≡ count v) v k
+    (λ same g. ap (λ (w : ℕ). getD (set counts k x) w 0) same ∙ getD-set-same counts k x 0 h ∙ is ∙ ap count (sym same))
+    (λ other g. getD-set-other counts k v x 0 other ∙ before g)
+    (sym (has-without r t k (rest ∙ ap (λ (i : ℕ). set (members t) i false) (sym (l .first))) (lowest-below t k l) v) ∙ gone)
+
+-- ---- the largest sum
+
+module _ (sum : ℕ → ℕ) where
+  -- the first of a list, or one behind it
+  largest-next : (k : ℕ) (ks : List ℕ) (b : Bool) → leb (most sum ks) (sum k) ≡ b → largestIn sum (k ∷ ks) ≡ cond b k (largestIn sum ks)
+  unfolding most
+  largest-next k ks true h =
+      let top : max (sum k) (most sum ks) ≡ sum k = omega (arith, leb-true (most sum ks) (sum k) h) in
+      ap (λ (l : List ℕ). getD l 0 64) (filter-here (λ j. eqb (sum j) (max (sum k) (most sum ks))) k ks (eq-eqb (sum k) (max (sum k) (most sum ks)) (sym top)))
+  largest-next k ks false h =
+      let less = leb-false (most sum ks) (sum k) h in
+      let top : max (sum k) (most sum ks) ≡ most sum ks = omega arith in
+      ap (λ (l : List ℕ). getD l 0 64)
+      (filter-past (λ j. eqb (sum j) (max (sum k) (most sum ks))) k ks (ne-eqb (sum k) (max (sum k) (most sum ks)) (λ e. omega arith))
+      ∙ ap (λ (m : ℕ). filter (λ j. eqb (sum j) m) ks) top)
+
+  -- best has the sum top, the largest so far; ks are left
+  abbrev pub carried : ℕ → ℕ → List ℕ → ℕ
+  carried best top ks = cond (leb (most sum ks) top) best (largestIn sum ks)
+
+  module _ (best top k : ℕ) (ks : List ℕ) where
+    opened : (b : Bool) → leb (most sum (k ∷ ks)) top ≡ b → (c : Bool) → leb (most sum ks) (sum k) ≡ c → carried best top (k ∷ ks) ≡ cond b best (cond c k (largestIn sum ks))
+    opened b h c l = ap (λ (t : Bool). cond t best (largestIn sum (k ∷ ks))) h ∙ ap (cond b best) (largest-next k ks c l)
+
+    -- its sum is larger
+    pub carried-more : top < sum k → {x y : ℕ} → x ≡ k → y ≡ sum k → carried best top (k ∷ ks) ≡ carried x y ks
+    unfolding most
+    carried-more h e f = opened false (lt-leb (most sum (k ∷ ks)) top (omega arith)) _ refl ∙ ap₂ (λ (x y : ℕ). carried x y ks) (sym e) (sym f)
+
+    -- its sum is not larger
+    pub carried-on : sum k ≤ top → {x y : ℕ} → x ≡ best → y ≡ top → carried best top (k ∷ ks) ≡ carried x y ks
+    unfolding most
+    carried-on h e f = go (leb (most sum ks) top) refl ∙ ap₂ (λ (x y : ℕ). carried x y ks) (sym e) (sym f)
+      where
+        go : (b : Bool) → leb (most sum ks) top ≡ b → carried best top (k ∷ ks) ≡ cond b best (largestIn sum ks)
+        go true l = opened true (le-leb (most sum (k ∷ ks)) top (omega (arith, leb-true (most sum ks) top l))) _ refl
+        go false l =
+            let more = leb-false (most sum ks) top l in
+            opened false (lt-leb (most sum (k ∷ ks)) top (omega arith)) false (lt-leb (most sum ks) (sum k) (omega arith))
+
+  -- nothing is left
+  pub carried-ends : (best top t : ℕ) → t ≡ 0 → carried best top (placesIn t) ≡ best
+  unfolding most
+  carried-ends best top t e =
+      ap (λ (s : ℕ). carried best top (placesIn s)) e ∙ ap (carried best top) none-listed ∙ ap (λ (b : Bool). cond b best (largestIn sum [])) (le-leb 0 top (omega arith))
+
+  -- the first is the best at the start
+  pub carried-starts : (t : ℕ) → t < 2 ^ 64 → largestIn sum (placesIn t) ≡ carried (firstOf (members t)) 0 (placesIn t)
+  unfolding most filter
+  carried-starts zero h = rw (none-listed, first-none)
+  carried-starts (suc t) h =
+      let l = lowest-of (suc t) (firstOf (members (suc t))) (omega arith) h refl in
+      rw (lowest-first (suc t) (firstOf (members (suc t))) l) (go (firstOf (members (suc t))) (indices (set (members (suc t)) (firstOf (members (suc t))) false)))
+    where
+      go : (k : ℕ) (ks : List ℕ) → largestIn sum (k ∷ ks) ≡ carried k 0 (k ∷ ks)
+      go k ks = by (leb (most sum (k ∷ ks)) 0) refl
+        where
+          by : (b : Bool) → leb (most sum (k ∷ ks)) 0 ≡ b → largestIn sum (k ∷ ks) ≡ cond b k (largestIn sum (k ∷ ks))
+          by true e = largest-next k ks true (le-leb (most sum ks) (sum k) (omega (arith, leb-true (most sum (k ∷ ks)) 0 e)))
+          by false e = refl
