@@ -6,3 +6,5 @@ pub mod Rows
 pub mod Opened
 pub mod Totals
 pub mod Examples
+pub mod Good
+pub mod GoodSaved

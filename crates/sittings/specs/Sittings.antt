@@ -5,7 +5,8 @@ use mathlib.Core.Bool.{Bool, true, false, _&&_, _||_}
 use lib.Dec.{eqb}
 use Rattle.rounding.specs.declared.Direction.{Direction}
 use Rattle.reliability.specs.declared.Figure.{Figure}
-use Rattle.reliability.specs.Rule.{side, more, Tree, ready, multiplied, fork, taken, run}
+use Rattle.reliability.specs.Networks.{Network}
+use Rattle.reliability.specs.Rule.{firstLink, chosen, side, more, Tree, ready, multiplied, fork, taken, treeBy, run}
 
 -- ---- work set aside
 
@@ -94,3 +95,19 @@ sitting t (complete f) limit = record { answer = f; saved = complete f }
 unfoldable pub savedAfter : Tree → Saved → List ℕ → Saved
 savedAfter t s [] = s
 savedAfter t s (l ∷ ls) = savedAfter t (sitting t s l .saved) ls
+
+-- ---- sittings by either choice
+
+-- the choice of the link to split on in a sitting: document 01's, or the rule's
+pub data Choosing : Type 0 where
+  byFirstLink : Choosing
+  byLargestSum : Choosing
+
+abbrev pub choiceOf : Choosing → Network → ℕ
+choiceOf byFirstLink = firstLink
+choiceOf byLargestSum = chosen
+
+-- what is saved after sittings of a network, one after the other, each by its choice and under its limit
+unfoldable pub savedBy : Network → Saved → List (Choosing × ℕ) → Saved
+savedBy g s [] = s
+savedBy g s (x ∷ xs) = savedBy g (sitting (treeBy (choiceOf (x .0)) g) s (x .1) .saved) xs
