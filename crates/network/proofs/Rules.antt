@@ -171,8 +171,12 @@ module _ (n : Network) (sized : Sized n) where
       places-pick p (members (n .alive)) (allRows n) (omega (arith, length-digits 64 (n .alive), length-all n sized))
       ∙ ap₂ (λ (t : ℕ → Bool) (ks : List ℕ). map (indexOf n) (filter t ks)) (fun-ext (λ k. ap p (rows-at (all-even n sized) k))) (sym (places-listed (n .alive)))
 
+  -- the first link that passes a test
+  pub first-rule : (p : Link → Bool) → firstAt p (linksOf n) ≡ Option·map (indexOf n) (first (filter (λ k. p (rowAt n k)) (placesIn (n .alive))))
+  first-rule p = first-place p (linksOf n) ∙ ap first (among p) ∙ first-map (indexOf n) (filter (λ k. p (rowAt n k)) (placesIn (n .alive)))
+
   pub loop-rule : firstAt isLoop (linksOf n) ≡ Option·map (indexOf n) (first (loops (n .alive) (n .a) (n .b)))
-  loop-rule = first-place isLoop (linksOf n) ∙ ap first (among isLoop) ∙ first-map (indexOf n) (loops (n .alive) (n .a) (n .b))
+  loop-rule = first-rule isLoop
 
   pub pair-rule : loops (n .alive) (n .a) (n .b) ≡ [] → firstPair (linksOf n) ≡ paired (members (n .alive)) (pairIn (beside (n .a) (n .b)) (placesIn (n .alive)))
   pair-rule no-loop =

@@ -10,7 +10,8 @@ use lib.Seq.{getD-set-same, getD-set-other}
 use borrow.Author.Tests.{eq-eqb, ne-eqb, le-leb, lt-leb, leb-true, leb-false}
 use Rattle.bits.specs.Members.{digits, members, firstOf, howMany}
 use Rattle.reliability.proofs.Lists.{by-eqb, filter-here, filter-past}
-use Rattle.search.specs.Searches.{placesIn, filter, most, largestIn}
+use Rattle.search.specs.declared.Found.the-variants.{At}
+use Rattle.search.specs.Searches.{placesIn, filter, found, most, largestIn}
 use Rattle.search.proofs.Sets.{has, has-without}
 use Rattle.search.proofs.Marks.{indices, Lowest, lowest-of, lowest-below, lowest-first, none-listed}
 
@@ -37,18 +38,23 @@ count-turn counts count t k l r rest v h {x} is before gone =
 -- ---- the largest sum
 
 module _ (sum : ℕ → ℕ) where
-  -- the first of a list, or one behind it
-  largest-next : (k : ℕ) (ks : List ℕ) (b : Bool) → leb (most sum ks) (sum k) ≡ b → largestIn sum (k ∷ ks) ≡ cond b k (largestIn sum ks)
-  unfolding most
-  largest-next k ks true h =
+  -- the first of a list is the answer, or one behind it
+  here : (k : ℕ) (ks : List ℕ) → leb (most sum ks) (sum k) ≡ true → filter (λ j. eqb (sum j) (max (sum k) (most sum ks))) (k ∷ ks) ≡ k ∷ filter (λ j. eqb (sum j) (max (sum k) (most sum ks))) ks
+  here k ks h =
       let top : max (sum k) (most sum ks) ≡ sum k = omega (arith, leb-true (most sum ks) (sum k) h) in
-      ap (λ (l : List ℕ). getD l 0 64) (filter-here (λ j. eqb (sum j) (max (sum k) (most sum ks))) k ks (eq-eqb (sum k) (max (sum k) (most sum ks)) (sym top)))
-  largest-next k ks false h =
+      filter-here (λ j. eqb (sum j) (max (sum k) (most sum ks))) k ks (eq-eqb (sum k) (max (sum k) (most sum ks)) (sym top))
+
+  past : (k : ℕ) (ks : List ℕ) → leb (most sum ks) (sum k) ≡ false → filter (λ j. eqb (sum j) (max (sum k) (most sum ks))) (k ∷ ks) ≡ filter (λ j. eqb (sum j) (most sum ks)) ks
+  past k ks h =
       let less = leb-false (most sum ks) (sum k) h in
       let top : max (sum k) (most sum ks) ≡ most sum ks = omega arith in
-      ap (λ (l : List ℕ). getD l 0 64)
-      (filter-past (λ j. eqb (sum j) (max (sum k) (most sum ks))) k ks (ne-eqb (sum k) (max (sum k) (most sum ks)) (λ e. omega arith))
-      ∙ ap (λ (m : ℕ). filter (λ j. eqb (sum j) m) ks) top)
+      filter-past (λ j. eqb (sum j) (max (sum k) (most sum ks))) k ks (ne-eqb (sum k) (max (sum k) (most sum ks)) (λ e. omega arith))
+      ∙ ap (λ (m : ℕ). filter (λ j. eqb (sum j) m) ks) top
+
+  largest-next : (k : ℕ) (ks : List ℕ) (b : Bool) → leb (most sum ks) (sum k) ≡ b → largestIn sum (k ∷ ks) ≡ cond b k (largestIn sum ks)
+  unfolding most
+  largest-next k ks true h = ap (λ (l : List ℕ). getD l 0 64) (here k ks h)
+  largest-next k ks false h = ap (λ (l : List ℕ). getD l 0 64) (past k ks h)
 
   -- best has the sum top, the largest so far; ks are left
   abbrev pub carried : ℕ → ℕ → List ℕ → ℕ
@@ -94,3 +100,24 @@ module _ (sum : ℕ → ℕ) where
           by : (b : Bool) → leb (most sum (k ∷ ks)) 0 ≡ b → largestIn sum (k ∷ ks) ≡ cond b k (largestIn sum (k ∷ ks))
           by true e = largest-next k ks true (le-leb (most sum ks) (sum k) (omega (arith, leb-true (most sum (k ∷ ks)) 0 e)))
           by false e = refl
+
+  some-largest : (ks : List ℕ) → 0 < length ks → 0 < length (filter (λ j. eqb (sum j) (most sum ks)) ks)
+  unfolding most
+  some-largest [] h = absurd (omega arith)
+  some-largest (k ∷ ks) h = go (leb (most sum ks) (sum k)) refl (some-largest ks)
+    where
+      later : (ks : List ℕ) → sum k < most sum ks → 0 < length ks
+      later [] h = absurd (omega arith)
+      later (j ∷ ks) h = omega arith
+
+      go : (b : Bool) → leb (most sum ks) (sum k) ≡ b → (0 < length ks → 0 < length (filter (λ j. eqb (sum j) (most sum ks)) ks)) → 0 < length (filter (λ j. eqb (sum j) (max (sum k) (most sum ks))) (k ∷ ks))
+      go true e r = rw (here k ks e) (omega arith)
+      go false e r = rw (past k ks e) (r (later ks (leb-false (most sum ks) (sum k) e)))
+
+  -- a list that is not empty has one
+  pub largest-found : (ks : List ℕ) → 0 < length ks → found (filter (λ j. eqb (sum j) (most sum ks)) ks) ≡ At (largestIn sum ks)
+  largest-found ks h = go (filter (λ j. eqb (sum j) (most sum ks)) ks) (some-largest ks h)
+    where
+      go : (l : List ℕ) → 0 < length l → found l ≡ At (getD l 0 64)
+      go [] h = absurd (omega arith)
+      go (j ∷ l) h = refl

@@ -15,15 +15,16 @@ use Rattle.reliability.specs.Rule.{lowest, endOf, seriesOf, chosen, when, _othe
 use Rattle.reliability.proofs.Steps.{Fits, fits}
 use Rattle.reliability.proofs.Simple.{simple-next}
 use Rattle.search.specs.declared.Found.the-variants.{At}
-use Rattle.search.specs.Searches.{pick, placesIn, touching, found, withLinks}
+use Rattle.search.specs.Searches.{pick, placesIn, touching, found, withLinks, Counted, countSum, largestIn}
 use Rattle.search.proofs.Sets.{has, has-place, has-below, mem-has, at-node}
 use Rattle.search.proofs.Marks.{Lowest, length-places, lowest-in, lowest-first, lowest-rest, rest-count, rest-within}
 use Rattle.search.proofs.Answers.{first, hit}
 use Rattle.network.specs.declared.Network.{Network}
-use Rattle.network.specs.Places.{rank, networkOf, linksOf, nodesOf, indexOf, Used, Invariant, ranked, Fitting, Sized}
+use Rattle.network.specs.Places.{networkOf, linksOf, nodesOf, indexOf, Used, Invariant, ranked, Fitting, Sized}
 use Rattle.network.proofs.Picks.{allRows}
 use Rattle.steps.specs.Simple.{Workable}
 use Rattle.network.proofs.Rules.{end-rule, series-rule}
+use Rattle.steps.proofs.Largest.{largest-right}
 
 pick-count : {A : Type 0} (us : List Bool) (xs : List A) → length (pick us xs) ≤ howMany us
 unfolding pick
@@ -31,13 +32,6 @@ pick-count [] xs = omega arith
 pick-count (u ∷ us) [] = omega arith
 pick-count (true ∷ us) (x ∷ xs) = omega (arith, pick-count us xs)
 pick-count (false ∷ us) (x ∷ xs) = pick-count us xs
-
--- the first link stands at the lowest place
-rank-lowest : (us : List Bool) → rank (firstOf us) us ≡ 0
-unfolding rank
-rank-lowest [] = refl
-rank-lowest (true ∷ us) = refl
-rank-lowest (false ∷ us) = rank-lowest us
 
 place-used : (n : Network) (k : ℕ) → has (n .alive) k ≡ true → Used n k
 place-used n k e = record { below = has-place (n .alive) k e; used = e }
@@ -113,10 +107,11 @@ module _ (n : Network) (work : Workable n) where
             placed = (below, at-used v i below (lowest-in s i l), at-used v j below (rest-within s i l r rest s (λ k e. e) j (lowest-in r j m)));
           }
 
-      pub split-right : withLinks 2 (n .at) (n .nodes) ≡ [] → (k : ℕ) → k ≡ firstOf (members (n .alive)) → Fitting n (Split k)
+      pub split-right : withLinks 2 (n .at) (n .nodes) ≡ [] → (counts : List ℕ) → Counted (n .nodes) (n .at) counts
+          → (k : ℕ) → k ≡ largestIn (countSum counts (n .a) (n .b)) (placesIn (n .alive)) → Fitting n (Split k)
       unfolding ranked
-      split-right no-series k f =
-          let e : next (networkOf n) ≡ Split 0 = by-series none (series-rule n sized (n .at) (holds .tallies) ∙ ap (λ (l : List ℕ). Option·map seriesAt (first l)) no-series) in
+      split-right no-series counts counted k f =
+          let e : next (networkOf n) ≡ Split (chosen (networkOf n)) = by-series none (series-rule n sized (n .at) (holds .tallies) ∙ ap (λ (l : List ℕ). Option·map seriesAt (first l)) no-series) in
           let place = subst (Fits (networkOf n)) e (fits (networkOf n) (holds .valid)) .place in
-          let l : Lowest (n .alive) k = record { some = omega (arith, pick-count (members (n .alive)) (allRows n)); first = f } in
-          record { by-rule = ap Split (ap (indexOf n) f ∙ rank-lowest (members (n .alive))) ∙ sym e; placed = place-used n k (lowest-in (n .alive) k l) }
+          let h = largest-right n sized holds counts counted (omega (arith, place, pick-count (members (n .alive)) (allRows n), length-places (n .alive))) in
+          record { by-rule = ap Split (ap (indexOf n) f ∙ sym (h .1)) ∙ sym e; placed = subst (Used n) (sym f) (h .0) }

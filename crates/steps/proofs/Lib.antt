@@ -1,3 +1,4 @@
+pub mod Largest
 pub mod Fits
 pub mod Arms
 pub mod Places

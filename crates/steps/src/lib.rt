@@ -83,5 +83,6 @@ pub fn step<'r>(
         let s = at[v];
         return Next::Series(v, bits::lowest(s), bits::lowest(bits::without_lowest(s)));
     }
-    Next::Split(bits::lowest(alive))
+    let counts = search::counts(all, at);
+    Next::Split(search::largest_sum(alive, &counts, a, b))
 }

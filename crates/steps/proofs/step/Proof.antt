@@ -11,6 +11,7 @@ use Rattle.search.proofs.Marks.{counted-some}
 use Rattle.search.proofs.Answers.{missed}
 use Rattle.network.specs.declared.Network.{Network}
 use Rattle.network.specs.Places.{assembled}
+use Rattle.network.proofs.Ends.{bounded}
 use Rattle.steps.proofs.Fits.{one-right, node, end-right, series-right, split-right}
 use borrow.Author.Needs.{needs}
 use Rattle.steps.proofs.step.Statement.{statement}
@@ -45,15 +46,19 @@ no-end t = missed _ (sym (t .before .before .lowest-with .ensures) ∙ t .enum-t
 enum-told-2 : tie.Need-enum-told-2
 enum-told-2 c = search needs
 
-lowest-requires-4 : tie.Need-lowest-requires-4
-lowest-requires-4 c κs = search needs
-
 returns-4 : tie.Need-returns-4
 returns-4 c =
-    let f = c .before .before .before in
+    let m = c .before .before in
+    let f = m .before .before .before in
     let t = f .before in
     let s = tested t .before .before in
-    split-right (net s) (s .pre) (more (tested t)) (no-end t) (missed _ (sym (f .lowest-with2 .ensures) ∙ c .before .enum-told2 .given .1)) _ (c .lowest4 .ensures)
+    split-right (net s) (s .pre) (more (tested t)) (no-end t) (missed _ (sym (f .lowest-with2 .ensures) ∙ m .before .enum-told2 .given .1)) (m .counts .result) (m .counts .ensures) _ (c .largest-sum .ensures)
+
+counts-requires : tie.Need-counts-requires
+counts-requires c κs = search needs
+
+largest-sum-requires : tie.Need-largest-sum-requires
+largest-sum-requires c κs = let s = tested (c .before .before .before .before .before) .before .before in bounded (net s) (s .pre .sized) (s .pre .holds .valid)
 
 -- ---- an end
 
@@ -150,5 +155,6 @@ step-spec =
     lowest-requires-3
     returns-3
     enum-told-2
-    lowest-requires-4
+    counts-requires
+    largest-sum-requires
     returns-4)
