@@ -469,19 +469,19 @@ module _ (t : ℕ) (told : Told t) (c : ℕ) (fits : Fitting (net t told) (Split
 -- the link to split on: of the next open split, else the chosen one
 run-split-on-requires : (t : ℕ) → run-lts.Need-split-on-requires (claims t) (run-at t) run.Post
 run-split-on-requires t c κs =
-    let told = c .before .before .before in
-    let fits = fitting t told (Splitting _) (c .before .c .given .1) in
+    let told = c .before .before .before .before in
+    let fits = fitting t told (Splitting _) (c .before .before .c .given .1) in
     (fits .placed .below, room-for t told _ fits)
 
 module _ (t : ℕ) (k : Split-known t) where
   abbrev told : Told t
-  told = k .before .before .before .before .before
+  told = k .before .before .before .before .before .before
 
   abbrev given : run-lts.Start (claims t) (run-at t) run.Post
   given = told .before
 
   abbrev first : ℕ
-  first = k .before .before .before .c .given .0 .0
+  first = k .before .before .before .before .c .given .0 .0
 
   abbrev place : ℕ
   place = k .before .split-on .result
@@ -490,7 +490,7 @@ module _ (t : ℕ) (k : Split-known t) where
   n = net t told
 
   chosen-fits : Fitting n (Split first)
-  chosen-fits = fitting t told (Splitting _) (k .before .before .before .c .given .1)
+  chosen-fits = fitting t told (Splitting _) (k .before .before .before .before .c .given .1)
 
   used : Used n place
   used = subst (Used n) (sym (k .before .split-on .ensures)) (split-used n first (chosen-fits .placed) (given .args .row .now) (given .args .k) (given .args .left))
