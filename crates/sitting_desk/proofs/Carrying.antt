@@ -17,7 +17,7 @@ use Rattle.sittings.specs.declared.Carried.{Carried}
 use Rattle.sittings.specs.Sittings.{opens, aside, resumed, traced, begun, complete, most, keeping}
 use Rattle.sittings.specs.Entries.{entries, opensIn, Known, InRange}
 use Rattle.sittings.proofs.Asides.{aside-open}
-use Rattle.sittings.proofs.Bounds.{depth, opens-few, tree-depth}
+use Rattle.sittings.proofs.Bounds.{Deep, deeper, aside-few, tree-deep}
 use Rattle.engine.specs.Carrying.{Carries, Worked}
 use Rattle.saved.specs.Format.{countIn, opensOf, wellFormed, savedBytes, begunBytes}
 use Rattle.saved.proofs.Laws.{formed-size, BegunWork, begun-means, begun-bytes}
@@ -25,8 +25,8 @@ use Rattle.saved_verdict.proofs.Laws.{saved-means}
 use Rattle.sitting_desk.specs.Carrying.{Resumable, InRow, workOf, Resumed, bytesOf}
 
 -- a plan's work is at most 64 splits deep
-pub plan-depth : (plan : List ℕ) → WellFormed plan → depth (tree (planOf plan)) ≤ 64
-plan-depth plan w = omega (arith, tree-depth (planOf plan) (plan-valid plan (accepted-means plan .1 w)), plan-links plan, w .links)
+pub plan-deep : (plan : List ℕ) → WellFormed plan → Deep 64 (tree (planOf plan))
+plan-deep plan w = deeper (length (planOf plan .links)) 64 (tree (planOf plan)) (omega (arith, plan-links plan, w .links)) (tree-deep (planOf plan) (plan-valid plan (accepted-means plan .1 w)))
 
 module _ (plan saved : List ℕ) (h : Resumable plan saved) where
   abbrev t : Tree
@@ -58,7 +58,7 @@ module _ (plan saved : List ℕ) (h : Resumable plan saved) where
     same-work g c e k = ap₂ (λ (g : Network) os. resumed (tree g) os) e (ap (opensIn row 0) k ∙ r .same)
 
   pub few-aside : (l : ℕ) → length (aside (workOf plan saved) l) ≤ 64
-  few-aside l = omega (arith, opens-few t (opensOf saved) l, plan-depth plan (accepted-means plan .0 (h .planned)))
+  few-aside l = aside-few 64 t (plan-deep plan (accepted-means plan .0 (h .planned))) (opensOf saved) l
 
 -- what the engine leaves, in this sitting's words
 pub resumed-of : (t u : Tree) (l limit n k : ℕ) (row after : List ℕ) (r s : Carried) → t ≡ u → l ≡ limit → n ≡ k → Worked t l row 0 r after

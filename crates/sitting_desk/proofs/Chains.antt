@@ -13,8 +13,8 @@ use Rattle.plan.specs.Plans.{WellFormed, planOf}
 use Rattle.plan.proofs.Verdicts.{accepted-means}
 use Rattle.plan.proofs.Accepted.{plan-valid, plan-links}
 use Rattle.refusals.specs.declared.CallVerdict.the-variants.{Accepted}
-use Rattle.sittings.specs.Sittings.{traced, Saved, begun, complete, nothing, sitting, savedAfter}
-use Rattle.sittings.proofs.Totals.{Fits, saved-fits}
+use Rattle.sittings.specs.Sittings.{traced, Saved, begun, complete, sitting, savedAfter, byLargestSum}
+use Rattle.sittings.proofs.GoodSaved.{GoodSaved, sitting-good, Fits, good-fits}
 use Rattle.saved.specs.Format.{countIn, stateIn, savedBytes, over}
 use Rattle.saved.proofs.Laws.{begun-size, complete-size, begun-state, begun-taken, begun-count, begun-opens, begun-formed, complete-state, complete-answer, complete-formed}
 use Rattle.saved_verdict.proofs.Laws.{saved-means, complete-passes}
@@ -75,7 +75,7 @@ module _ (plan : List ℕ) (well : WellFormed plan) where
   kept (complete f) c = record {
     size = omega (arith, complete-size f);
     enough = omega (arith, complete-size f);
-    again = sym (complete-passes t (savedBytes (complete f)) (complete-formed f (c .few)) (complete-state f));
+    again = sym (complete-passes t (savedBytes (complete f)) (complete-formed f c) (complete-state f));
   }
 
   pub handed-again : (s : Saved) → Fits g s → (w : List ℕ) → handed (over (savedBytes s) w) ≡ savedBytes s
@@ -105,39 +105,25 @@ module _ (plan : List ℕ) (well : WellFormed plan) where
 
   -- ---- several sittings
 
-  -- saved work that came from sittings of this plan
-  pub record Reached (s : Saved) : Type 0 where
-    pub earlier : List ℕ
-    pub same : s ≡ savedAfter t nothing earlier
+  -- saved work that came from sittings of this plan, each by either choice of the link to split on, is good
+  pub good-on : (s : Saved) → GoodSaved g s → (l : ℕ) → GoodSaved g (sitting t s l .saved)
+  good-on s h l = sitting-good g valid byLargestSum s h l
 
-  pub from-nothing : Reached nothing
+  pub good-after : (s : Saved) → GoodSaved g s → (ls : List ℕ) → GoodSaved g (savedAfter t s ls)
   unfolding savedAfter
-  from-nothing = record { earlier = []; same = refl }
+  good-after s h [] = h
+  good-after s h (l ∷ ls) = good-after (sitting t s l .saved) (good-on s h l) ls
 
-  pub reached-fits : (s : Saved) → Reached s → Fits g s
-  reached-fits s r = subst (Fits g) (sym (r .same)) (saved-fits g valid (r .earlier))
-
-  -- one sitting more
-  after-one : (s : Saved) (ls : List ℕ) (l : ℕ) → savedAfter t s (ls ++ (l ∷ [])) ≡ sitting t (savedAfter t s ls) l .saved
-  unfolding savedAfter
-  after-one s [] l = refl
-  after-one s (k ∷ ls) l = after-one (sitting t s k .saved) ls l
-
-  pub reached-on : (s : Saved) → Reached s → (l : ℕ) → Reached (sitting t s l .saved)
-  reached-on s r l = record { earlier = r .earlier ++ (l ∷ []); same = ap (λ s. sitting t s l .saved) (r .same) ∙ sym (after-one nothing (r .earlier) l) }
-
-  pub reached-after : (s : Saved) → Reached s → (ls : List ℕ) → Reached (savedAfter t s ls)
-  unfolding savedAfter
-  reached-after s r [] = r
-  reached-after s r (l ∷ ls) = reached-after (sitting t s l .saved) (reached-on s r l) ls
+  pub fits : (s : Saved) → GoodSaved g s → Fits g s
+  fits = good-fits g valid
 
   -- what a sitting hands on
-  pub hands : (s : Saved) → Reached s → (x : Lent) → Allowed x → handed (sat plan (savedBytes s) x .work) ≡ savedBytes (sitting t s (x .limit) .saved)
+  pub hands : (s : Saved) → GoodSaved g s → (x : Lent) → Allowed x → handed (sat plan (savedBytes s) x .work) ≡ savedBytes (sitting t s (x .limit) .saved)
   hands s r x a =
-      ap (λ (o : SittingOutcome). handed (o .work)) (one s (reached-fits s r) x a)
-      ∙ handed-again (sitting t s (x .limit) .saved) (reached-fits (sitting t s (x .limit) .saved) (reached-on s r (x .limit))) (x .work)
+      ap (λ (o : SittingOutcome). handed (o .work)) (one s (fits s r) x a)
+      ∙ handed-again (sitting t s (x .limit) .saved) (fits (sitting t s (x .limit) .saved) (good-on s r (x .limit))) (x .work)
 
-  pub hands-on : (s : Saved) → Reached s → (xs : List Lent) → AllAllowed xs → handedOn plan (savedBytes s) xs ≡ savedBytes (savedAfter t s (limits xs))
+  pub hands-on : (s : Saved) → GoodSaved g s → (xs : List Lent) → AllAllowed xs → handedOn plan (savedBytes s) xs ≡ savedBytes (savedAfter t s (limits xs))
   unfolding handedOn savedAfter
   hands-on s r [] a = refl
-  hands-on s r (x ∷ xs) a = ap (λ b. handedOn plan b xs) (hands s r x (a .0)) ∙ hands-on (sitting t s (x .limit) .saved) (reached-on s r (x .limit)) xs (a .1)
+  hands-on s r (x ∷ xs) a = ap (λ b. handedOn plan b xs) (hands s r x (a .0)) ∙ hands-on (sitting t s (x .limit) .saved) (good-on s r (x .limit)) xs (a .1)

@@ -1,7 +1,7 @@
 -- What is claimed of a sitting, over what the call returns and what it leaves in its two buffers.
 use Prim.Native.Nat.{ℕ, _+_, _-_, _≤_, min}
 use mathlib.Core.Path.{_≡_, refl, sym, ap, ap₂, _∙_, subst}
-use mathlib.Core.List.{List, _++_}
+use mathlib.Core.List.{List, [], _++_}
 use mathlib.Core.Logic.{_⊎_, inl, inr, _↔_}
 use mathlib.Core.Bool.{Bool, true, false}
 use native.Mathlib.Omega.{arith}
@@ -10,17 +10,21 @@ use lib.ListN.{length, take, drop, length-append, length-drop}
 use lib.Seq.{length-take-le, drop-at, drop-append-seam}
 use borrow.Author.Tests.{eqb-true}
 use Rattle.reliability.specs.declared.Figure.{Figure}
+use Rattle.reliability.specs.Networks.{Network, Valid}
 use Rattle.reliability.specs.Exact.{altogether}
 use Rattle.reliability.specs.Rule.{figure, Tree, tree, run, more}
 use Rattle.plan.specs.Plans.{WellFormed, planOf}
+use Rattle.plan.proofs.Verdicts.{accepted-means}
+use Rattle.plan.proofs.Accepted.{plan-valid}
 use Rattle.refusals.specs.declared.CallVerdict.{CallVerdict}
 use Rattle.refusals.specs.declared.CallVerdict.the-variants.{Accepted, Refused}
 use Rattle.refusals.specs.Refusals.{callReturned}
 use Rattle.refusals.proofs.Calls.{call-number-range, zero-accepted}
 use Rattle.answers.specs.Answers.{answerBytes, withFigure, stepsIn}
 use Rattle.answers.proofs.Laws.{steps-written}
-use Rattle.sittings.specs.Sittings.{Open, opens, resumed, Saved, begun, complete, Sitting, nothing, most, sitting, savedAfter}
-use Rattle.sittings.proofs.Bounds.{depth, opens-depth, resumed-depth}
+use Rattle.sittings.specs.Sittings.{Open, opens, resumed, Saved, begun, complete, Sitting, nothing, most, sitting, savedAfter, Choosing, savedBy}
+use Rattle.sittings.proofs.Bounds.{Deep, opens-few, resumed-deep, tree-formed}
+use Rattle.sittings.proofs.GoodSaved.{GoodSaved, saved-good}
 use Rattle.sittings.proofs.Totals.{totals, total-figure, capped, first-figure, at-most}
 use Rattle.saved.specs.Format.{stateIn, takenIn, opensOf, savedBytes, over}
 use Rattle.saved.proofs.Laws.{complete-means, begun-means, begun-size, complete-size, begun-state, begun-count, complete-state, zeros, zeros-nothing}
@@ -28,9 +32,9 @@ use Rattle.saved_verdict.proofs.Laws.{saved-means}
 use Rattle.sitting_desk.specs.Outcome.{SittingOutcome, carriedOn, verdictOf, sittingOf, sittingOutcome}
 use Rattle.sitting_desk.specs.Chains.{Lent, Allowed, AllAllowed, handed, sat, handedOn, limits}
 use Rattle.sitting_desk.specs.Demands.{Full, Refusal, Keeps}
-use Rattle.sitting_desk.proofs.Carrying.{plan-depth}
+use Rattle.sitting_desk.proofs.Carrying.{plan-deep}
 use Rattle.sitting_desk.proofs.Outcomes.{AcceptedCall, accepted-call, call-accepted, refused, completed, carried}
-use Rattle.sitting_desk.proofs.Chains.{span, handed-over, begun-span, complete-span, kept, one, Reached, from-nothing, reached-fits, reached-on, reached-after, hands, hands-on}
+use Rattle.sitting_desk.proofs.Chains.{span, handed-over, begun-span, complete-span, kept, one, fits, good-on, good-after, hands, hands-on}
 
 -- ---- demand 1
 
@@ -51,7 +55,7 @@ full p b answer work o e size room space few some spans =
     })
 
 -- what a sitting saves has its own size, and no more than 64 open splits
-saved-span : (t : Tree) → depth t ≤ 64 → (os : List Open) (n limit : ℕ) → let b = savedBytes (sitting t (begun os n) limit .saved) in (length b ≤ 776) × (8 ≤ length b) × (length b ≡ span b)
+saved-span : (t : Tree) → Deep 64 t → (os : List Open) (n limit : ℕ) → let b = savedBytes (sitting t (begun os n) limit .saved) in (length b ≤ 776) × (8 ≤ length b) × (length b ≡ span b)
 unfolding sitting
 saved-span t deep os n limit = go (run u l .finished)
   where
@@ -70,7 +74,7 @@ saved-span t deep os n limit = go (run u l .finished)
         (omega arith, omega arith, complete-span (savedBytes (complete f)) (complete-state f) e)
     go false =
         let e = begun-size (opens u l) (f .steps) in
-        let few : length (opens u l) ≤ 64 = omega (arith, opens-depth u l, resumed-depth t os) in
+        let few : length (opens u l) ≤ 64 = opens-few 64 u (resumed-deep 64 t deep os) l in
         (omega arith, omega arith, begun-span (savedBytes (begun (opens u l) (f .steps))) (begun-state (opens u l) (f .steps)) (omega (arith, begun-count (opens u l) (f .steps) few)))
 
 module _ (plan : List ℕ) (limit : ℕ) (saved answer work : List ℕ) where
@@ -94,7 +98,7 @@ module _ (plan : List ℕ) (limit : ℕ) (saved answer work : List ℕ) where
           (length-take-le 16 (drop 8 saved) (omega (arith, length-drop 8 saved, w .size))) (h .answer) (h .work) (omega (arith, w .size)) (omega (arith, w .size)) (complete-span saved one (w .size))
       by-state false e s =
           let h = accepted-call plan limit saved (length answer) (length work) e in
-          let (few, some, spans) = saved-span (tree (planOf plan)) (plan-depth plan (h .well)) (opensOf saved) (takenIn saved) limit in
+          let (few, some, spans) = saved-span (tree (planOf plan)) (plan-deep plan (h .well)) (opensOf saved) (takenIn saved) limit in
           full (answerBytes (sittingOf plan limit saved .answer)) (savedBytes (sittingOf plan limit saved .saved)) answer work o (carried plan limit saved answer work e s)
           refl (h .answer) (h .work) few some spans
 
@@ -163,76 +167,104 @@ complete-answers t (begun os n) l f e = go (run (resumed t os) k .finished) e
     go true p = cc
     go false p = let z : _≡_ {A = ℕ} 0 1 = cc in absurd (omega arith)
 
--- ---- sittings of an accepted plan, the first of which is handed eight zero bytes
+-- ---- sittings of an accepted plan, after earlier ones
 
 module _ (plan : List ℕ) (well : WellFormed plan) where
-  -- a first sitting is handed eight zero bytes and answers as the figure does under its limit
-  pub first-sitting : (x : Lent) → Allowed x → (sat plan zeros x .returned ≡ 0) × (sat plan zeros x .answer ≡ withFigure (figure (planOf plan) (x .limit)) (x .answer))
-  first-sitting x a =
-      let e = ap (λ b. sat plan b x) (sym zeros-nothing) ∙ one plan well nothing (reached-fits plan well nothing (from-nothing plan well)) x a in (
-        ap (λ (o : SittingOutcome). o .returned) e,
-        ap (λ (o : SittingOutcome). o .answer) e ∙ ap (λ (f : Figure). withFigure f (x .answer)) (first-figure (planOf plan) (x .limit) (a .limit)),
-      )
+  abbrev g : Network
+  g = planOf plan
 
-  -- several sittings, and one more
-  module _ (xs : List Lent) (before : AllAllowed xs) (x : Lent) (a : Allowed x) where
+  valid : Valid g
+  valid = plan-valid plan (accepted-means plan .1 well)
+
+  -- saved work that came from this plan's earlier sittings, each by document 01's choice or by the rule's
+  pub record Earlier (s : Saved) : Type 0 where
+    pub sittings : List (Choosing × ℕ)
+    pub same : s ≡ savedBy g nothing sittings
+
+  good : (s : Saved) → Earlier s → GoodSaved g s
+  good s e = subst (GoodSaved g) (sym (e .same)) (saved-good g valid (e .sittings))
+
+  -- nothing
+  pub first : Earlier nothing
+  unfolding savedBy
+  first = record { sittings = []; same = refl }
+
+  -- they are accepted, by the checks 10 and 11 too, and a sitting that is handed them is the sitting of its definition
+  pub earlier-accepted : (s : Saved) → Earlier s → Keeps plan (savedBytes s)
+  earlier-accepted s e = kept plan well s (fits plan well s (good s e))
+
+  pub earlier-carried : (s : Saved) → Earlier s → (x : Lent) → Allowed x → sat plan (savedBytes s) x ≡ carriedOn (sitting (tree g) s (x .limit)) (x .answer) (x .work)
+  earlier-carried s e = one plan well s (fits plan well s (good s e))
+
+  -- ---- several sittings from the same saved work, and one more
+
+  module _ (s : Saved) (e : Earlier s) (xs : List Lent) (before : AllAllowed xs) (x : Lent) (a : Allowed x) where
     abbrev saved : Saved
-    saved = savedAfter (tree (planOf plan)) nothing (limits xs)
+    saved = savedAfter (tree g) s (limits xs)
 
     abbrev last : SittingOutcome
-    last = sat plan (handedOn plan zeros xs) x
+    last = sat plan (handedOn plan (savedBytes s) xs) x
 
     -- their total, or 1,000,000 if that is less
     abbrev total : ℕ
     total = min (altogether (limits xs) + x .limit) 1000000
 
-    handed-bytes : handedOn plan zeros xs ≡ savedBytes saved
-    handed-bytes = ap (λ b. handedOn plan b xs) (sym zeros-nothing) ∙ hands-on plan well nothing (from-nothing plan well) xs before
+    good-saved : GoodSaved g saved
+    good-saved = good-after plan well s (good s e) (limits xs)
 
-    reached : Reached plan well saved
-    reached = reached-after plan well nothing (from-nothing plan well) (limits xs)
+    last-is : last ≡ carriedOn (sitting (tree g) saved (x .limit)) (x .answer) (x .work)
+    last-is = ap (λ b. sat plan b x) (hands-on plan well s (good s e) xs before) ∙ one plan well saved (fits plan well saved good-saved) x a
 
-    last-is : last ≡ carriedOn (sitting (tree (planOf plan)) saved (x .limit)) (x .answer) (x .work)
-    last-is = ap (λ b. sat plan b x) handed-bytes ∙ one plan well saved (reached-fits plan well saved reached) x a
+    last-hands : handed (last .work) ≡ savedBytes (sitting (tree g) saved (x .limit) .saved)
+    last-hands = ap (λ b. handed (sat plan b x .work)) (hands-on plan well s (good s e) xs before) ∙ hands plan well saved good-saved x a
 
-    last-hands : handed (last .work) ≡ savedBytes (sitting (tree (planOf plan)) saved (x .limit) .saved)
-    last-hands = ap (λ b. handed (sat plan b x .work)) handed-bytes ∙ hands plan well saved reached x a
-
-    -- a user who works a plan through several sittings gets the answer of one sitting whose limit is their total, or 1,000,000 if that is less:
-    -- the figure under that limit, and all that one first sitting under it leaves in the same buffers
-    pub sittings-add-up : (last .returned ≡ 0) × (last .answer ≡ withFigure (figure (planOf plan) total) (x .answer))
-        × (last ≡ sat plan zeros (record { limit = total; answer = x .answer; work = x .work }))
+    -- they add up: both buffers are as one sitting whose limit is their total, or 1,000,000 if that is less, leaves them
+    pub sittings-add-up : (last .returned ≡ 0) × (last ≡ sat plan (savedBytes s) (record { limit = total; answer = x .answer; work = x .work }))
     sittings-add-up =
-        let t = tree (planOf plan) in
         let once : Lent = record { limit = total; answer = x .answer; work = x .work } in
         let h : Allowed once = record { limit = omega arith; room = a .room; space = a .space } in
-        let single = ap (λ b. sat plan b once) (sym zeros-nothing) ∙ one plan well nothing (reached-fits plan well nothing (from-nothing plan well)) once h in
-        let sum : sitting t saved (x .limit) ≡ sitting t nothing total = totals t nothing (limits xs) (x .limit) ∙ capped (planOf plan) (altogether (limits xs) + x .limit) in (
+        let sum : sitting (tree g) saved (x .limit) ≡ sitting (tree g) s total = totals (tree g) (tree-formed g valid) s (limits xs) (x .limit) ∙ capped (tree g) s (altogether (limits xs) + x .limit) in (
           ap (λ (o : SittingOutcome). o .returned) last-is,
-          ap (λ (o : SittingOutcome). o .answer) last-is ∙ ap (λ (f : Figure). withFigure f (x .answer)) (total-figure (planOf plan) (limits xs) (x .limit)),
-          last-is ∙ ap (λ (s : Sitting). carriedOn s (x .answer) (x .work)) sum ∙ sym single,
+          last-is ∙ ap (λ (s : Sitting). carriedOn s (x .answer) (x .work)) sum ∙ sym (earlier-carried s e once h),
         )
 
     -- saved work fits: 776 bytes are enough, and it is accepted again by the same plan
     pub saved-work-fits : Keeps plan (handed (last .work))
     saved-work-fits =
-        let s = sitting (tree (planOf plan)) saved (x .limit) .saved in
-        subst (Keeps plan) (sym last-hands) (kept plan well s (reached-fits plan well s (reached-on plan well saved reached (x .limit))))
+        let r = sitting (tree g) saved (x .limit) .saved in
+        subst (Keeps plan) (sym last-hands) (kept plan well r (fits plan well r (good-on plan well saved good-saved (x .limit))))
 
     -- a complete one is followed by the answer's 16 bytes: under any limit it gives its answer and its bytes again
     pub complete-again : stateIn (handed (last .work)) ≡ 1 → (y : Lent) → Allowed y
         → sat plan (handed (last .work)) y ≡ record { returned = 0; answer = take 16 (last .answer) ++ drop 16 (y .answer); work = over (handed (last .work)) (y .work) }
     unfolding sitting
-    complete-again e y b = go next refl
+    complete-again one-more y b = go next refl
       where
         next : Saved
-        next = sitting (tree (planOf plan)) saved (x .limit) .saved
+        next = sitting (tree g) saved (x .limit) .saved
 
         go : (s : Saved) → next ≡ s → sat plan (handed (last .work)) y ≡ record { returned = 0; answer = take 16 (last .answer) ++ drop 16 (y .answer); work = over (handed (last .work)) (y .work) }
         go (begun os n) p = let z : stateIn (handed (last .work)) ≡ 0 = ap stateIn (last-hands ∙ ap savedBytes p) ∙ begun-state os n in absurd (omega arith)
         go (complete f) p =
             let bytes : handed (last .work) ≡ savedBytes (complete f) = last-hands ∙ ap savedBytes p in
-            let fits = reached-fits plan well (complete f) (subst (Reached plan well) p (reached-on plan well saved reached (x .limit))) in
-            let answer : take 16 (last .answer) ≡ answerBytes f = ap (λ (o : SittingOutcome). take 16 (o .answer)) last-is ∙ ap answerBytes (complete-answers (tree (planOf plan)) saved (x .limit) f p) in
-            ap (λ c. sat plan c y) bytes ∙ one plan well (complete f) fits y b
+            let fit = fits plan well (complete f) (subst (GoodSaved g) p (good-on plan well saved good-saved (x .limit))) in
+            let answer : take 16 (last .answer) ≡ answerBytes f = ap (λ (o : SittingOutcome). take 16 (o .answer)) last-is ∙ ap answerBytes (complete-answers (tree g) saved (x .limit) f p) in
+            ap (λ c. sat plan c y) bytes ∙ one plan well (complete f) fit y b
             ∙ ap₂ (λ p c. record { returned = 0; answer = p ++ drop 16 (y .answer); work = over c (y .work) }) (sym answer) (sym bytes)
+
+  -- ---- sittings the first of which is handed eight zero bytes
+
+  -- a first sitting answers as the figure does under its limit
+  pub first-sitting : (x : Lent) → Allowed x → (sat plan zeros x .returned ≡ 0) × (sat plan zeros x .answer ≡ withFigure (figure g (x .limit)) (x .answer))
+  first-sitting x a =
+      let e = ap (λ b. sat plan b x) (sym zeros-nothing) ∙ earlier-carried nothing first x a in (
+        ap (λ (o : SittingOutcome). o .returned) e,
+        ap (λ (o : SittingOutcome). o .answer) e ∙ ap (λ (f : Figure). withFigure f (x .answer)) (first-figure g (x .limit) (a .limit)),
+      )
+
+  -- a user who works a plan through several sittings gets the figure under their total, or under 1,000,000 if that is less
+  pub sittings-figure : (xs : List Lent) → AllAllowed xs → (x : Lent) → Allowed x
+      → sat plan (handedOn plan zeros xs) x .answer ≡ withFigure (figure g (min (altogether (limits xs) + x .limit) 1000000)) (x .answer)
+  sittings-figure xs before x a =
+      ap (λ b. sat plan (handedOn plan b xs) x .answer) (sym zeros-nothing) ∙ ap (λ (o : SittingOutcome). o .answer) (last-is nothing first xs before x a)
+      ∙ ap (λ (f : Figure). withFigure f (x .answer)) (total-figure g valid (limits xs) (x .limit))

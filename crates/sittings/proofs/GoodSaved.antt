@@ -2,7 +2,7 @@
 use Prim.Native.Nat.{ℕ, _+_, _-_, _*_, _^_, _≤_, min, zero-le}
 use mathlib.Core.Path.{_≡_, refl, sym, ap, _∙_, subst}
 use mathlib.Core.List.{List, [], _∷_}
-use mathlib.Core.Bool.{Bool, true, false, _||_}
+use mathlib.Core.Bool.{Bool, true, false, _||_, or-true as or-right}
 use mathlib.Core.Logic.{_⊎_, inl, inr}
 use native.Mathlib.Omega.{arith}
 use lib.Dec.{eqb}
@@ -24,6 +24,7 @@ use Rattle.reliability.proofs.Weights.{Near, near-weights, low-below-high, no-w
 use Rattle.reliability.proofs.Theorems.{low-weights, low-total}
 use Rattle.sittings.specs.Sittings.{Open, sides, opens, resumed, traced, Saved, begun, complete, nothing, most, sitting, Choosing, byFirstLink, byLargestSum, choiceOf, savedBy}
 use Rattle.sittings.specs.Entries.{Known, InRange, InOrder}
+use Rattle.sittings.proofs.Bounds.{traced-few, tree-deep}
 use Rattle.sittings.proofs.Good.{Exactly, Good, good-none, good-kept, carried-near, carried-ranged, good-range, good-order, good-traced}
 
 -- the first link or the chosen one
@@ -38,13 +39,9 @@ either-choice : (c : Choosing) (g : Network) → Either g (choiceOf c g)
 either-choice byFirstLink g = inl refl
 either-choice byLargestSum g = inr refl
 
-or-true : (a : Bool) → a || true ≡ true
-or-true true = refl
-or-true false = refl
-
 either-tested : (g : Network) (i : ℕ) → Either g i → (eqb i 0 || eqb i (chosen g)) ≡ true
 either-tested g i (inl e) = ap (λ a. a || eqb i (chosen g)) (eq-eqb i 0 e)
-either-tested g i (inr e) = ap (λ b. eqb i 0 || b) (eq-eqb i (chosen g) e) ∙ or-true (eqb i 0)
+either-tested g i (inr e) = ap (λ b. eqb i 0 || b) (eq-eqb i (chosen g) e) ∙ or-right (eqb i 0)
 
 module _ (g : Network) where
   -- figures of a network, all worked: in range, and they enclose the exact sum within the budget
@@ -123,7 +120,7 @@ module _ (g : Network) where
           go false e = (good-kept Valid view stepAt lawful Either either-link (choiceOf c) (either-choice c) g valid os (h .0) l, few)
       sitting-good (complete f) h limit = h
 
-    saved-again : (s : Saved) → GoodSaved s → (xs : List (Choosing × ℕ)) → GoodSaved (savedBy g s xs)
+    pub saved-again : (s : Saved) → GoodSaved s → (xs : List (Choosing × ℕ)) → GoodSaved (savedBy g s xs)
     unfolding savedBy
     saved-again s h [] = h
     saved-again s h (x ∷ xs) = saved-again (sitting (by (x .0)) s (x .1) .saved) (sitting-good (x .0) s h (x .1)) xs
@@ -186,3 +183,24 @@ module _ (g : Network) where
       -- where the links' low and high values are equal, a finished pair is at most 2m + 4n wide
       pub sitting-width-of-equal : Equal g → answer .finished ≡ true → answer .high ≤ answer .low + (2 * length (g .links) + 4 * length (g .nodes))
       sitting-width-of-equal equal done = omega (arith, sitting-width (low-weights g valid) done, no-units (g .links) equal)
+
+-- ---- what the checks of saved work ask
+
+-- open splits and steps so far
+pub record Begun (g : Network) (os : List Open) (n : ℕ) : Type 0 where
+  pub traces : traced (tree g) os ≡ true
+  pub in-order : Known InOrder os
+  pub in-range : Known InRange os
+  pub few : length os ≤ length (g .links)
+  pub within : n ≤ most
+
+abbrev pub Fits : Network → Saved → Type 0
+Fits g (begun os n) = Begun g os n
+Fits g (complete f) = f .steps ≤ most
+
+-- good saved work passes them
+pub good-fits : (g : Network) → Valid g → (s : Saved) → GoodSaved g s → Fits g s
+good-fits g valid (begun os n) h =
+    let traces = work-traced g valid os (h .0) in
+    record { traces = traces; in-order = work-order g valid os (h .0); in-range = work-range g valid os (h .0); few = traced-few (length (g .links)) (tree g) (tree-deep g valid) os traces; within = h .1 }
+good-fits g valid (complete f) h = h .2

@@ -69,30 +69,20 @@ module _ (t : Tree) (formed : Formed t) where
   totals s [] k = ap (sitting t s) (sym (zero-add k))
   totals s (l ∷ ls) k = totals (sitting t s l .saved) ls k ∙ two s l (altogether ls + k) ∙ ap (sitting t s) (sym (add-assoc l (altogether ls) k))
 
-  -- what several sittings leave is what one leaves
-  pub saved-one : (s : Saved) (l : ℕ) (ls : List ℕ) → savedAfter t s (l ∷ ls) ≡ sitting t s (altogether (l ∷ ls)) .saved
-  unfolding savedAfter altogether
-  saved-one s l [] = ap (λ n. sitting t s n .saved) (sym (add-zero l))
-  saved-one s l (m ∷ ls) = saved-one (sitting t s l .saved) m ls ∙ ap (λ (x : Sitting). x .saved) (two s l (altogether (m ∷ ls)))
+-- a limit past the most steps is the most steps
+pub capped : (t : Tree) (s : Saved) (l : ℕ) → sitting t s l ≡ sitting t s (min l most)
+unfolding sitting
+capped t (complete f) l = refl
+capped t (begun os n) l =
+    let same : min l (most - n) ≡ min (min l most) (most - n) = omega arith in
+    ap (λ j. kept (more n (run (resumed t os) j)) (keeping (more n (run (resumed t os) j)) (opens (resumed t os) j))) same
 
 -- ---- from nothing
 
--- a limit past the most steps is the most steps
-pub capped : (g : Network) (n : ℕ) → sitting (tree g) nothing n ≡ sitting (tree g) nothing (min n most)
+-- the rule's figure under the total, or under a million steps
+pub total-figure : (g : Network) → Valid g → (ls : List ℕ) (k : ℕ) → sitting (tree g) (savedAfter (tree g) nothing ls) k .answer ≡ figure g (min (altogether ls + k) most)
 unfolding sitting resumed
-capped g n =
-    let same : min n most ≡ min (min n most) most = omega arith in
-    ap (λ j. kept (more 0 (run (tree g) j)) (keeping (more 0 (run (tree g) j)) (opens (tree g) j))) same
-
-module _ (g : Network) (valid : Valid g) (ls : List ℕ) (k : ℕ) where
-  -- the rule's figure under the total, or under a million steps
-  pub total-figure : sitting (tree g) (savedAfter (tree g) nothing ls) k .answer ≡ figure g (min (altogether ls + k) most)
-  unfolding sitting resumed
-  total-figure = ap (λ (s : Sitting). s .answer) (totals (tree g) (tree-formed g valid) nothing ls k) ∙ more-zero (run (tree g) (min (altogether ls + k) most))
-
-  -- and what one such sitting sets aside
-  pub total-saved : sitting (tree g) (savedAfter (tree g) nothing ls) k .saved ≡ sitting (tree g) nothing (min (altogether ls + k) most) .saved
-  total-saved = ap (λ (s : Sitting). s .saved) (totals (tree g) (tree-formed g valid) nothing ls k ∙ capped g (altogether ls + k))
+total-figure g valid ls k = ap (λ (s : Sitting). s .answer) (totals (tree g) (tree-formed g valid) nothing ls k) ∙ more-zero (run (tree g) (min (altogether ls + k) most))
 
 pub first-figure : (g : Network) (limit : ℕ) → limit ≤ most → sitting (tree g) nothing limit .answer ≡ figure g limit
 unfolding sitting resumed
