@@ -4,3 +4,4 @@ pub mod Demands
 pub mod Importances
 pub mod Differences
 pub mod Sittings
+pub mod Earlier

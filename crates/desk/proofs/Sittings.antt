@@ -11,7 +11,8 @@ use Rattle.reliability.specs.Rule.{figure, needed}
 use Rattle.plan.specs.Plans.{WellFormed, sizeN, sizeM, planOf}
 use Rattle.refusals.specs.Refusals.{figureVerdict}
 use Rattle.answers.specs.Answers.{withFigure, lowIn, highIn, stepsIn, finishedIn}
-use Rattle.saved.proofs.Laws.{zeros}
+use Rattle.sittings.specs.Sittings.{nothing}
+use Rattle.saved.proofs.Laws.{zeros, zeros-nothing}
 use Rattle.sitting_desk.specs.Outcome.{SittingOutcome}
 use Rattle.sitting_desk.specs.Chains.{Lent, Allowed, AllAllowed, sat, handedOn, limits}
 use Rattle.sitting_desk.proofs.Demands as sittings
@@ -66,8 +67,8 @@ module _ (plan : List ℕ) (well : WellFormed plan) where
     -- a user who works a plan through several sittings gets the answer of one sitting whose limit is their total, or 1,000,000 if that is less
     pub sittings-as-figure : (last .returned ≡ 0) × (after ≡ figureOutcome plan total (x .answer) .buffer)
     sittings-as-figure =
-        let e = sittings.sittings-add-up plan well xs before x a in
-        (e .0, e .1 ∙ filled total (x .answer) few (a .room))
+        let e = sittings.sittings-add-up plan well nothing (sittings.first plan well) xs before x a in
+        (subst (λ b. sat plan (handedOn plan b xs) x .returned ≡ 0) zeros-nothing (e .0), sittings.sittings-figure plan well xs before x a ∙ filled total (x .answer) few (a .room))
 
     of-figure : (P : List ℕ → Type 0) → P (figureOutcome plan total (x .answer) .buffer) → P after
     of-figure P = subst P (sym (sittings-as-figure .1))

@@ -181,7 +181,7 @@ module _ (plan : List ℕ) (well : WellFormed plan) where
     pub sittings : List (Choosing × ℕ)
     pub same : s ≡ savedBy g nothing sittings
 
-  good : (s : Saved) → Earlier s → GoodSaved g s
+  pub good : (s : Saved) → Earlier s → GoodSaved g s
   good s e = subst (GoodSaved g) (sym (e .same)) (saved-good g valid (e .sittings))
 
   -- nothing

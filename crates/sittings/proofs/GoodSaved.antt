@@ -4,6 +4,7 @@ use mathlib.Core.Path.{_≡_, refl, sym, ap, _∙_, subst}
 use mathlib.Core.List.{List, [], _∷_}
 use mathlib.Core.Bool.{Bool, true, false, _||_, or-true as or-right}
 use mathlib.Core.Logic.{_⊎_, inl, inr}
+use native.Mathlib.Nat.{le-refl}
 use native.Mathlib.Omega.{arith}
 use lib.Dec.{eqb}
 use borrow.Author.Tests.{eq-eqb}
@@ -16,7 +17,7 @@ use Rattle.reliability.specs.Networks.{Network, Valid}
 use Rattle.reliability.specs.Exact.{Weighted, sum, total, exact, AllEnclosed, altogether, Equal}
 use Rattle.reliability.specs.Rule.{firstLink, chosen, stepAt, Tree, treeBy, tree, side, more, run, budget}
 use Rattle.reliability.proofs.Lawful.{Place}
-use Rattle.reliability.proofs.Runs.{steps, range}
+use Rattle.reliability.proofs.Runs.{steps, range, nested}
 use Rattle.reliability.proofs.Steps.{view, first-link, chosen-link}
 use Rattle.reliability.proofs.Validity.{valued}
 use Rattle.reliability.proofs.Enclosure.{Encloses, Figured, lawful}
@@ -140,6 +141,23 @@ module _ (g : Network) where
       -- they pass check 11
       pub work-traced : traced (tree g) os ≡ true
       work-traced = good-traced Valid view stepAt lawful Either either-link chosen (either-choice byLargestSum) g valid os good either-tested
+
+    -- no sitting goes past the most steps
+    pub sitting-few : (s : Saved) → GoodSaved s → (limit : ℕ) → sitting (tree g) s limit .answer .steps ≤ most
+    unfolding sitting
+    sitting-few (begun os n) h limit = omega (arith, steps (resumed (tree g) os) (min limit (most - n)), h .1)
+    sitting-few (complete f) h limit = h .2
+
+    -- with a larger limit the pair lies within the smaller limit's, from the same saved work
+    pub sitting-nesting : (s : Saved) → GoodSaved s → (limit larger : ℕ) → limit ≤ larger
+        → let f = sitting (tree g) s limit .answer in let h = sitting (tree g) s larger .answer in (f .low ≤ h .low) × (h .high ≤ f .high)
+    unfolding sitting
+    sitting-nesting (begun os n) h limit larger less =
+        let u = resumed (tree g) os in
+        let r = carried-ranged Valid view stepAt lawful Either either-link chosen (either-choice byLargestSum) g valid os (h .0) in
+        let k : min limit (most - n) ≤ min larger (most - n) = omega arith in
+        (nested u r Down (min limit (most - n)) (min larger (most - n)) k .order, nested u r Up (min limit (most - n)) (min larger (most - n)) k .order)
+    sitting-nesting (complete f) h limit larger less = (le-refl (f .low), le-refl (f .high))
 
     -- the answer of a sitting by the rule's choice, whatever good work it is handed
     module _ (s : Saved) (good : GoodSaved s) (limit : ℕ) where
