@@ -82,7 +82,8 @@ module _ (n : Network) (sized : Sized n) (holds : Invariant n) (counts : List �
   largest-right some-place =
       let h = hit (λ k. eqb (sum k) (most sum (placesIn (n .alive)))) (placesIn (n .alive)) best (largest-found sum (placesIn (n .alive)) some-place) in
       let u = mem-has (n .alive) best (h .member) in
-      let alike = filter-same (λ k. eqb (w (rowAt n k)) (largest w (linksOf n))) (λ k. eqb (sum k) (most sum (placesIn (n .alive)))) (placesIn (n .alive)) (λ k m. ap₂ eqb (same-sum k m) top) in
-      (record { below = has-place (n .alive) best u; used = u },
-      ap (λ (o : Option ℕ). elim o as (λ x. ℕ) [ some i ↦ i | none ↦ 0 ])
-      (first-rule n sized (λ e. eqb (w e) (largest w (linksOf n))) ∙ ap (λ (l : List ℕ). Option·map (indexOf n) (first l)) alike ∙ ap (Option·map (indexOf n)) (h .first)))
+      let alike = filter-same (λ k. eqb (w (rowAt n k)) (largest w (linksOf n))) (λ k. eqb (sum k) (most sum (placesIn (n .alive)))) (placesIn (n .alive)) (λ k m. ap₂ eqb (same-sum k m) top) in (
+        record { below = has-place (n .alive) best u; used = u },
+        ap (λ (o : Option ℕ). elim o as (λ x. ℕ) [ some i ↦ i | none ↦ 0 ])
+            (first-rule n sized (λ e. eqb (w e) (largest w (linksOf n))) ∙ ap (λ (l : List ℕ). Option·map (indexOf n) (first l)) alike ∙ ap (Option·map (indexOf n)) (h .first)),
+      )
