@@ -9,6 +9,7 @@ use lib.ListN.{length, getD, set}
 use lib.Seq.{getD-set-same, getD-set-other}
 use borrow.Author.Tests.{eq-eqb, ne-eqb, le-leb, lt-leb, leb-true, leb-false}
 use Rattle.bits.specs.Members.{digits, members, firstOf, howMany}
+use Rattle.bits.proofs.Digits.{length-digits}
 use Rattle.reliability.proofs.Lists.{by-eqb, filter-here, filter-past}
 use Rattle.search.specs.declared.Found.the-variants.{At}
 use Rattle.search.specs.Searches.{placesIn, filter, found, most, largestIn}
@@ -21,10 +22,13 @@ first-none = refl
 
 -- ---- the counts
 
-pub count-most : (bs : List Bool) → howMany bs ≤ length bs
+count-most : (bs : List Bool) → howMany bs ≤ length bs
 count-most [] = omega arith
 count-most (true ∷ bs) = omega (arith, count-most bs)
 count-most (false ∷ bs) = omega (arith, count-most bs)
+
+pub places-most : (s : ℕ) → howMany (members s) ≤ 64
+places-most s = omega (arith, count-most (members s), length-digits 64 s)
 
 -- a turn: the count of the lowest node k of t is written, and r is the rest of t
 pub count-turn : (counts : List ℕ) (count : ℕ → ℕ) (t k : ℕ) → Lowest t k → (r : ℕ) → members r ≡ set (members t) (firstOf (members t)) false → (v : ℕ)

@@ -96,11 +96,11 @@ pub fn counts(nodes: u64, at: &[u64; 32]) -> [u8; 32]
     ensures { λ r. ⌜ Counted nodes (now (at .entry)) r ⌝ }
 {
     let mut counts = [0u8; 32];
-    let mut t = nodes;
-    while t != 0 {
-        let v = bits::lowest(t);
+    let mut rest = nodes;
+    while rest != 0 {
+        let v = bits::lowest(rest);
         counts[v] = bits::count(at[v]) as u8;
-        t = bits::without_lowest(t);
+        rest = bits::without_lowest(rest);
     }
     counts
 }
@@ -118,15 +118,15 @@ pub fn largest_sum<'r>(alive: u64, counts: &'r [u8; 32], a: &'r [u8; 64], b: &'r
 {
     let mut best = bits::lowest(alive);
     let mut most = 0;
-    let mut t = alive;
-    while t != 0 {
-        let k = bits::lowest(t);
+    let mut rest = alive;
+    while rest != 0 {
+        let k = bits::lowest(rest);
         let sum = together(counts[a[k] as usize], counts[b[k] as usize]);
         if most < sum {
             most = sum;
             best = k;
         }
-        t = bits::without_lowest(t);
+        rest = bits::without_lowest(rest);
     }
     best
 }

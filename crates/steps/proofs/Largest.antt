@@ -1,5 +1,5 @@
 -- The link with the largest sum of its ends' link counts, by places.
-use Prim.Native.Nat.{ℕ, zero, suc, _+_, max, _≤_, _<_}
+use Prim.Native.Nat.{ℕ, suc, _+_, max, _≤_, _<_}
 use mathlib.Core.Path.{_≡_, refl, sym, ap, ap₂, fun-ext, _∙_}
 use mathlib.Core.List.{List, [], _∷_, map, List·Memᴰ, List·Memᴰ·head, List·Memᴰ·tail}
 use mathlib.Core.Bool.{Bool, true, false}
@@ -7,10 +7,10 @@ use mathlib.Core.Option.{Option, some, none, Option·map}
 use native.Mathlib.Omega.{arith}
 use lib.Dec.{eqb}
 use lib.ListN.{length, getD}
-use Rattle.bits.specs.Members.{members, howMany}
+use Rattle.bits.specs.Members.{members}
 use Rattle.bits.proofs.Digits.{length-digits}
 use Rattle.reliability.specs.declared.Link.{Link}
-use Rattle.reliability.specs.Rule.{firstAt, degree, degreeSum, largest, largestSum}
+use Rattle.reliability.specs.Rule.{degree, degreeSum, largest, largestSum}
 use Rattle.reliability.proofs.Searches.{nth}
 use Rattle.search.specs.Searches.{pick, placesIn, filter, Counted, countSum, most, largestIn}
 use Rattle.search.proofs.Sets.{has, has-below, has-place, mem-has}
@@ -82,7 +82,8 @@ module _ (n : Network) (sized : Sized n) (holds : Invariant n) (counts : List �
   largest-right some-place =
       let h = hit (λ k. eqb (sum k) (most sum (placesIn (n .alive)))) (placesIn (n .alive)) best (largest-found sum (placesIn (n .alive)) some-place) in
       let u = mem-has (n .alive) best (h .member) in
-      let alike = filter-same (λ k. eqb (w (rowAt n k)) (largest w (linksOf n))) (λ k. eqb (sum k) (most sum (placesIn (n .alive)))) (placesIn (n .alive)) (λ k m. ap₂ eqb (same-sum k m) top) in
-      (record { below = has-place (n .alive) best u; used = u },
-      ap (λ (o : Option ℕ). elim o as (λ x. ℕ) [ some i ↦ i | none ↦ 0 ])
-      (first-rule n sized (λ e. eqb (w e) (largest w (linksOf n))) ∙ ap (λ (l : List ℕ). Option·map (indexOf n) (first l)) alike ∙ ap (Option·map (indexOf n)) (h .first)))
+      let alike = filter-same (λ k. eqb (w (rowAt n k)) (largest w (linksOf n))) (λ k. eqb (sum k) (most sum (placesIn (n .alive)))) (placesIn (n .alive)) (λ k m. ap₂ eqb (same-sum k m) top) in (
+        record { below = has-place (n .alive) best u; used = u },
+        ap (λ (o : Option ℕ). elim o as (λ x. ℕ) [ some i ↦ i | none ↦ 0 ])
+            (first-rule n sized (λ e. eqb (w e) (largest w (linksOf n))) ∙ ap (λ (l : List ℕ). Option·map (indexOf n) (first l)) alike ∙ ap (Option·map (indexOf n)) (h .first)),
+      )

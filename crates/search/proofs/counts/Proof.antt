@@ -1,6 +1,6 @@
 use Prim.Native.Nat.{ℕ, _^_, _<_}
-use mathlib.Core.Path.{_≡_, refl, sym, ap, _∙_}
-use mathlib.Core.Bool.{Bool, true, false, true≢false}
+use mathlib.Core.Path.{_≡_, sym, ap, _∙_}
+use mathlib.Core.Bool.{true, false, true≢false}
 use native.Mathlib.Omega.{arith}
 use lib.ListN.{length, getD}
 use borrow.Author.Needs.{needs}
@@ -8,8 +8,7 @@ use Rattle.bits.specs.Members.{members, howMany}
 use Rattle.bits.proofs.Operations.{cleared-fits}
 use Rattle.search.proofs.Sets.{has, has-none, has-below}
 use Rattle.search.proofs.Marks.{Lowest, lowest-of, lowest-in, rest-count}
-use Rattle.bits.proofs.Digits.{length-digits}
-use Rattle.search.proofs.Largest.{count-most, count-turn}
+use Rattle.search.proofs.Largest.{places-most, count-turn}
 use Rattle.search.proofs.counts.Statement.{statement}
 use Rattle.search.proofs.counts.Tie as tie
 
@@ -23,18 +22,35 @@ abbrev μ-loop : tie.MeasureT-loop
 loop-holds : tie.Need-loop-holds Inv-loop μ-loop
 loop-holds c = (λ v h k. absurd (true≢false (sym h ∙ k)), search needs, search needs)
 
-lowest-requires : tie.Need-lowest-requires Inv-loop μ-loop
-lowest-requires c κs = search needs
-
-low : (c : tie.After-lowest Inv-loop μ-loop) → Lowest (c .before .before .loop .t) (c .lowest .result)
+low : (c : tie.After-lowest Inv-loop μ-loop) → Lowest (c .before .before .loop .rest) (c .lowest .result)
 low c =
     let l = c .before .before .loop in
-    lowest-of (l .t) (c .lowest .result) (search needs) (omega (arith, l .inv .1)) (c .lowest .ensures)
+    lowest-of (l .rest) (c .lowest .result) (search needs) (omega (arith, l .inv .1)) (c .lowest .ensures)
 
 below : (c : tie.After-lowest Inv-loop μ-loop) → c .lowest .result < 32
 below c =
     let l = c .before .before .loop in
-    has-below (l .t) 32 (c .lowest .result) (l .inv .1) (lowest-in _ _ (low c))
+    has-below (l .rest) 32 (c .lowest .result) (l .inv .1) (lowest-in _ _ (low c))
+
+loop-again : tie.Need-loop-again Inv-loop μ-loop
+loop-again c =
+    let f = c .before .before .before in
+    let l = f .before .before in
+    let rest = c .without-lowest .ensures in
+    let at = l .before .args .at .now in (
+      λ v h k. count-turn (l .loop .counts) (λ w. howMany (members (getD at w 0))) (l .loop .rest) (f .lowest .result) (low f) _ rest v
+          (omega (arith, below f, l .loop .inv .2)) (c .before .count .ensures) (l .loop .inv .0 v h) k,
+      cleared-fits _ _ _ (search needs) (l .loop .inv .1) rest,
+      search (needs, l .loop .inv .2),
+    )
+
+returns : tie.Need-returns Inv-loop μ-loop
+returns c = λ v h. c .before .loop .inv .0 v h (ap (λ (s : ℕ). has s v) (let z : c .before .loop .rest ≡ 0 = search needs in z) ∙ has-none v)
+
+-- ---- the rest
+
+lowest-requires : tie.Need-lowest-requires Inv-loop μ-loop
+lowest-requires c κs = search needs
 
 mul-count : tie.Need-mul-count Inv-loop μ-loop
 mul-count c = record { fits = omega (arith, below c) }
@@ -46,7 +62,7 @@ count-requires : tie.Need-count-requires Inv-loop μ-loop
 count-requires c κs = search needs
 
 cast-counts : tie.Need-cast-counts Inv-loop μ-loop
-cast-counts c = record { fits = omega (arith, c .count .ensures, count-most (members (getD (c .before .before .before .before .before .args .at .now) (c .before .before .lowest .result) 0)), length-digits 64 (getD (c .before .before .before .before .before .args .at .now) (c .before .before .lowest .result) 0)) }
+cast-counts c = record { fits = omega (arith, c .count .ensures, places-most (getD (c .before .before .before .before .before .args .at .now) (c .before .before .lowest .result) 0)) }
 
 array-write-counts : tie.Need-array-write-counts Inv-loop μ-loop
 array-write-counts c = below (c .before .before)
@@ -56,21 +72,6 @@ without-lowest-requires c κs = search needs
 
 loop-less : tie.Need-loop-less Inv-loop μ-loop
 loop-less c = omega (arith, rest-count _ _ (low (c .before .before .before)) _ (c .without-lowest .ensures))
-
-loop-again : tie.Need-loop-again Inv-loop μ-loop
-loop-again c =
-    let f = c .before .before .before in
-    let l = f .before .before in
-    let rest = c .without-lowest .ensures in
-    let at = l .before .args .at .now in (
-      λ v h k. count-turn (l .loop .counts) (λ w. howMany (members (getD at w 0))) (l .loop .t) (f .lowest .result) (low f) _ rest v
-      (omega (arith, below f, l .loop .inv .2)) (c .before .count .ensures) (l .loop .inv .0 v h) k,
-      cleared-fits _ _ _ (search needs) (l .loop .inv .1) rest,
-      search (needs, l .loop .inv .2),
-    )
-
-returns : tie.Need-returns Inv-loop μ-loop
-returns c = λ v h. c .before .loop .inv .0 v h (ap (λ (s : ℕ). has s v) (let z : c .before .loop .t ≡ 0 = search needs in z) ∙ has-none v)
 
 pub counts-spec : {M : Type 1} → statement M
 counts-spec =

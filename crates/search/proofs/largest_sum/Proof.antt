@@ -1,6 +1,5 @@
 use Prim.Native.Nat.{ℕ, _^_, _<_}
 use mathlib.Core.Path.{_≡_, sym, ap, _∙_}
-use mathlib.Core.List.{List}
 use mathlib.Core.Logic.{⊎-elim}
 use native.Mathlib.Omega.{arith}
 use lib.ListN.{getD}
@@ -19,10 +18,10 @@ Inv-loop alive counts a b best₀ most₀ t₀ best most t =
 abbrev μ-loop : tie.MeasureT-loop
 μ-loop alive counts a b best₀ most₀ t₀ best most t = howMany (members t)
 
-low : (c : tie.After-lowest2 Inv-loop μ-loop) → Lowest (c .before .before .loop .t) (c .lowest2 .result)
+low : (c : tie.After-lowest2 Inv-loop μ-loop) → Lowest (c .before .before .loop .rest) (c .lowest2 .result)
 low c =
     let l = c .before .before .loop in
-    lowest-of (l .t) (c .lowest2 .result) (search needs) (l .inv .2) (c .lowest2 .ensures)
+    lowest-of (l .rest) (c .lowest2 .result) (search needs) (l .inv .2) (c .lowest2 .ensures)
 
 -- ---- a turn: the first of what is left is better, or the best stays
 
@@ -35,16 +34,18 @@ loop-again c =
     let rest = c .without-lowest .ensures in
     let k = f .lowest2 .result in
     let ks = placesIn (c .without-lowest .result) in
-    let added = c .before .before .together .ensures in
-    (l .loop .inv .0 ∙ ap (carried sum (l .loop .best) (l .loop .most)) (lowest-rest _ _ (low f) _ rest)
-    ∙ ⊎-elim
-    (λ w. carried-more sum (l .loop .best) (l .loop .most) k ks (omega (arith, added, w .0 .taken)) (w .1) (w .2 ∙ added))
-    (λ w. carried-on sum (l .loop .best) (l .loop .most) k ks (omega (arith, added, w .0 .left)) (w .1) (w .2))
-    (c .before .if1 .came),
-    rest-within _ _ (low f) _ rest _ (l .loop .inv .1), search needs)
+    let added = c .before .before .together .ensures in (
+      l .loop .inv .0 ∙ ap (carried sum (l .loop .best) (l .loop .most)) (lowest-rest _ _ (low f) _ rest)
+          ∙ ⊎-elim
+          (λ w. carried-more sum (l .loop .best) (l .loop .most) k ks (omega (arith, added, w .0 .taken)) (w .1) (w .2 ∙ added))
+          (λ w. carried-on sum (l .loop .best) (l .loop .most) k ks (omega (arith, added, w .0 .left)) (w .1) (w .2))
+          (c .before .if1 .came),
+      rest-within _ _ (low f) _ rest _ (l .loop .inv .1),
+      search needs,
+    )
 
 returns : tie.Need-returns Inv-loop μ-loop
-returns c = let l = c .before .loop in sym (l .inv .0 ∙ carried-ends _ (l .best) (l .most) (l .t) (search needs))
+returns c = let l = c .before .loop in sym (l .inv .0 ∙ carried-ends _ (l .best) (l .most) (l .rest) (search needs))
 
 -- ---- the rest
 

@@ -1,5 +1,4 @@
 use mathlib.Core.Path.{sym, _∙_}
-use native.Mathlib.Omega.{arith}
 use Rattle.steps.proofs.Places.{split-fresh, split-same, split-first}
 use borrow.Author.Needs.{needs}
 use Rattle.steps.proofs.split_on.Statement.{statement}
