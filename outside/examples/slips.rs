@@ -3,8 +3,8 @@
 //!
 //!     cargo run --release --offline --locked --manifest-path outside/Cargo.toml --example slips [WORD ..]
 //!
-//! tries the slips whose names have all the words, or all slips. It fails if a slip is not caught, or if a test fails without one,
-//! which is tried where no words are given.
+//! tries the slips whose names have all the words, or all slips. It fails if a slip is not caught, or if a test fails without one:
+//! the library is tried so where no words are given, the calls in C where slips of theirs are to be tried.
 
 use outside::programs::ran;
 use outside::repository::{library, path};
@@ -412,21 +412,30 @@ fn tried(slip: &Slip, programs: &[PathBuf], before: &mut Vec<Trial>) -> Option<T
     Some(found)
 }
 
+/// Whether all tests pass with the library, or with the calls in C, that have no slip.
+fn right(programs: &[PathBuf], slip: Option<&Slip>) -> bool {
+    let tried = |program: &PathBuf| caught(&(program.clone(), None), slip);
+    let failed = programs.iter().find_map(tried);
+    if let Some(trial) = &failed {
+        println!("fails without a slip: {}", shown(trial));
+    }
+    failed.is_none()
+}
+
 fn main() -> ExitCode {
     let words: Vec<String> = std::env::args().skip(1).collect();
     let folder = path("target").join("slips");
     write_libraries(&folder);
     let programs = built(&folder.canonicalize().unwrap());
-    for program in programs.iter().filter(|_| words.is_empty()) {
-        if let Some(trial) = caught(&(program.clone(), None), None) {
-            println!("fails without a slip: {}", shown(&trial));
-            return ExitCode::FAILURE;
-        }
+    let mut slips = slips();
+    slips.retain(|slip| words.iter().all(|word| slip.name.contains(word)));
+    let in_c = slips.iter().any(|slip| slip.numbers[0] == IN_C);
+    let none = slip("none".into(), &[IN_C, 0]);
+    if words.is_empty() && !right(&programs, None) || in_c && !right(&programs, Some(&none)) {
+        return ExitCode::FAILURE;
     }
-    let (mut before, mut missed, mut count) = (Vec::new(), Vec::new(), 0);
-    let fits = |slip: &Slip| words.iter().all(|word| slip.name.contains(word));
-    for slip in slips().iter().filter(|slip| fits(slip)) {
-        count += 1;
+    let (mut before, mut missed) = (Vec::new(), Vec::new());
+    for slip in &slips {
         match tried(slip, &programs, &mut before) {
             Some(trial) => println!("{}: caught by {}", slip.name, shown(&trial)),
             None => {
@@ -435,6 +444,6 @@ fn main() -> ExitCode {
             }
         }
     }
-    println!("{count} slips, {} not caught", missed.len());
+    println!("{} slips, {} not caught", slips.len(), missed.len());
     ExitCode::from(u8::from(!missed.is_empty()))
 }

@@ -216,16 +216,21 @@ impl Network {
 
     /// The place of the link that the choice takes.
     pub(crate) fn chosen(&self, choice: Choice) -> usize {
-        let count = |v: u8| self.places_at(v).len();
-        let sum = |link: &Link| link.ends.map(count).iter().sum();
         match choice {
             Choice::FirstLink => 0,
-            Choice::LargestSum => {
-                let sums: Vec<usize> = self.links.iter().map(sum).collect();
-                let most = sums.iter().max().unwrap();
-                sums.iter().position(|sum| sum == most).unwrap()
-            }
+            Choice::LargestSum => self.largest_sum(),
         }
+    }
+
+    fn largest_sum(&self) -> usize {
+        let mut counts = [0; 32];
+        for end in self.links.iter().flat_map(|link| link.ends) {
+            counts[usize::from(end)] += 1;
+        }
+        let sum = |link: &Link| link.ends.map(|v| counts[usize::from(v)]).iter().sum();
+        let sums: Vec<usize> = self.links.iter().map(sum).collect();
+        let most = sums.iter().max().expect("a split has links");
+        sums.iter().position(|sum| sum == most).unwrap()
     }
 
     /// The split on the link at `place`, which is no loop.
