@@ -1,14 +1,19 @@
 //! Nanoseconds a split on three fixed plans: the library, through its figure call, beside the rule in C with bit sets,
-//! `outside/c/rule.c`, and the straightforward version, `outside/src/rule.rs`, taking turns in one run; then the time of a whole
-//! listing by the program.
+//! `outside/c/rule.c`, and the straightforward version, `outside/src/rule.rs`, taking turns in one run. Of these plans and the sample
+//! plans the splits and the time of a whole figure by either choice of the link that is split on, and where it takes too many splits
+//! the figures under some limits; the same of random plans, in the mean. Then the time of a whole listing by the program.
 //! As a test, without `--bench` among its words, it does everything once on a small scale and judges no time.
 
 use outside::arithmetic::S;
-use outside::calls::{answer_of, read};
+use outside::bitsets::figure_by;
+use outside::calls::{answer_of, read, MOST_STEPS};
 use outside::listing::{by_the_calls, written};
 use outside::plans::{Link, Plan};
-use outside::repository::plan;
+use outside::random::Random;
+use outside::repository::{plan, plans_with};
+use outside::rule::{Choice, Figure, CHOICES};
 use outside::versions::{in_c, library, straightforward, Version};
+use std::cmp::Ordering;
 use std::hint::black_box;
 use std::time::Instant;
 
@@ -16,6 +21,8 @@ use std::time::Instant;
 struct Scale {
     runs: usize,
     limit: u64,
+    /// The most splits of a whole figure.
+    most: u64,
     listings: usize,
     listed: &'static str,
 }
@@ -23,6 +30,7 @@ struct Scale {
 const WHOLE: Scale = Scale {
     runs: 7,
     limit: 200_000,
+    most: 40_000_000,
     listings: 5,
     listed: "mesh",
 };
@@ -30,6 +38,7 @@ const WHOLE: Scale = Scale {
 const SMALL: Scale = Scale {
     runs: 1,
     limit: 50,
+    most: 1_000,
     listings: 1,
     listed: "example",
 };
@@ -155,13 +164,171 @@ fn figures(scale: &Scale) -> f64 {
         "times as fast",
     ]);
     row(["---", "--:", "--:", "--:", "--:", "--:", "--:"]);
-    let plans = [
-        ("torus", torus()),
-        ("mesh", read(&plan("mesh")).unwrap()),
-        ("complete", complete()),
-    ];
-    let noise = plans.map(|(name, plan)| measured_row(name, &plan, scale));
+    let noise = measured_plans().map(|(name, plan)| measured_row(name, &plan, scale));
     noise.into_iter().fold(0.0, f64::max)
+}
+
+fn measured_plans() -> [(&'static str, Plan); 3] {
+    [
+        ("torus", torus()),
+        ("mesh", sample("mesh")),
+        ("complete", complete()),
+    ]
+}
+
+fn sample(name: &str) -> Plan {
+    read(&plan(name)).unwrap()
+}
+
+/// The time of one figure in nanoseconds, the median of some runs, each of as many figures as it takes to fill the limit; of a
+/// figure of very many splits one run.
+fn figure_time(splits: u64, scale: &Scale, figure: impl Fn()) -> f64 {
+    let rounds = (scale.limit / (splits + 1)).max(1);
+    let runs = if splits > MOST_STEPS { 1 } else { scale.runs };
+    let run = |_| {
+        let started = Instant::now();
+        (0..rounds).for_each(|_| figure());
+        started.elapsed().as_nanos() as f64 / rounds as f64
+    };
+    Times::new((0..runs).map(run).collect()).median()
+}
+
+fn shown_time(nanoseconds: f64) -> String {
+    let units = [(1e9, "s"), (1e6, "ms"), (1e3, "µs"), (1.0, "ns")];
+    let fits = |unit: &&(f64, &str)| nanoseconds >= unit.0;
+    let (one, unit) = units.iter().find(fits).unwrap_or(&units[3]);
+    format!("{:.1} {unit}", nanoseconds / one)
+}
+
+/// The splits and the time of a whole figure in C by a choice, unless it takes too many.
+fn whole_in_c(choice: Choice, plan: &Plan, scale: &Scale) -> [String; 2] {
+    let whole = figure_by(choice, plan, scale.most);
+    if !whole.finished {
+        return [format!("over {}", scale.most), "-".into()];
+    }
+    let figure = || {
+        black_box(figure_by(choice, black_box(plan), scale.most));
+    };
+    let time = figure_time(whole.steps, scale, figure);
+    [whole.steps.to_string(), shown_time(time)]
+}
+
+/// The time of a whole figure by the library, unless it takes more splits than it may.
+fn whole_by_the_library(plan: &Plan, scale: &Scale) -> String {
+    let answer = answer_of(&library(plan, scale.most.min(MOST_STEPS)));
+    if !answer.finished {
+        return "-".into();
+    }
+    let figure = || {
+        black_box(library(black_box(plan), MOST_STEPS));
+    };
+    shown_time(figure_time(answer.steps, scale, figure))
+}
+
+fn whole_row(cells: [&str; 6]) {
+    let [plan, first, largest, c_first, c_largest, library] = cells;
+    println!("| {plan:19} | {first:>13} | {largest:>13} | {c_first:>13} | {c_largest:>14} | {library:>20} |");
+}
+
+/// Prints the table of whole figures by either choice.
+fn whole_figures(scale: &Scale) {
+    println!("\nSplits and time of a whole figure by the first link and by the largest sum:\n");
+    whole_row([
+        "plan",
+        "first link",
+        "largest sum",
+        "C, first link",
+        "C, largest sum",
+        "library, largest sum",
+    ]);
+    whole_row(["---", "--:", "--:", "--:", "--:", "--:"]);
+    let names = plans_with("plan").into_iter();
+    let samples = names.filter(|name| name != "mesh").map(|name| {
+        let plan = sample(&name);
+        (name, plan)
+    });
+    let others = measured_plans().map(|(name, plan)| (name.to_owned(), plan));
+    for (name, plan) in samples.chain(others) {
+        let in_c = CHOICES.map(|choice| whole_in_c(choice, &plan, scale));
+        let [[first, c_first], [largest, c_largest]] = &in_c;
+        let library = &whole_by_the_library(&plan, scale);
+        whole_row([&name, first, largest, c_first, c_largest, library]);
+    }
+}
+
+fn unfinished_row(cells: [&str; 4]) {
+    let [plan, steps, first, largest] = cells;
+    println!("| {plan:5} | {steps:>7} | {first:>22} | {largest:>22} |");
+}
+
+/// Prints the figures under limits that are too small, by either choice.
+fn unfinished_figures(scale: &Scale) {
+    println!("\nLow and high under a limit, by the first link and by the largest sum:\n");
+    unfinished_row(["plan", "limit", "first link", "largest sum"]);
+    unfinished_row(["---", "--:", "--:", "--:"]);
+    let limits = [1_000, 20_000, 100_000, MOST_STEPS];
+    for (name, plan) in &measured_plans()[..2] {
+        for limit in limits.into_iter().filter(|limit| *limit <= scale.most) {
+            let figures = CHOICES.map(|choice| figure_by(choice, plan, limit));
+            let [first, largest] = figures.map(|f| format!("{} to {}", f.low, f.high));
+            unfinished_row([name, &limit.to_string(), &first, &largest]);
+        }
+    }
+}
+
+/// Of numbers by either choice how many are less by the largest sum, equal and greater, and the mean ratio.
+fn compared(numbers: &[[u64; 2]]) -> [String; 4] {
+    let count = |order| {
+        let fits = |numbers: &&[u64; 2]| numbers[1].cmp(&numbers[0]) == order;
+        numbers.iter().filter(fits).count().to_string()
+    };
+    let ratio = |[first, largest]: &[u64; 2]| (*largest as f64 / *first as f64).ln();
+    let mean = numbers.iter().map(ratio).sum::<f64>() / numbers.len() as f64;
+    let [less, equal, greater] = [Ordering::Less, Ordering::Equal, Ordering::Greater].map(count);
+    [less, equal, greater, format!("{:.2}", mean.exp())]
+}
+
+fn random_row(cells: [&str; 5]) {
+    let [what, less, equal, greater, ratio] = cells;
+    println!("| {what:62} | {less:>4} | {equal:>5} | {greater:>7} | {ratio:>10} |");
+}
+
+/// Prints the row of random meshed plans whose links have one chance, each worked within the limit and seen as a number.
+fn random_plans(what: &str, sizes: (u8, usize), chance: u32, limit: u64, seen: fn(&Figure) -> u64) {
+    let mut random = Random::new(1);
+    let mut numbers = Vec::new();
+    while numbers.len() < 100 {
+        let mut plan = Plan::meshed(&mut random, sizes.0, sizes.1);
+        plan.links.iter_mut().for_each(|link| link.value = chance);
+        let figures = CHOICES.map(|choice| figure_by(choice, &plan, limit));
+        let numbers_here = figures.map(|figure| seen(&figure));
+        numbers.extend((!numbers_here.contains(&0)).then_some(numbers_here));
+    }
+    let [less, equal, greater, ratio] = &compared(&numbers);
+    let what = format!("{what}, {} nodes, {} links", sizes.0, sizes.1);
+    random_row([&what, less, equal, greater, ratio]);
+}
+
+/// Prints the table of random plans by either choice.
+fn random_figures(scale: &Scale) {
+    println!("\nOf 100 random plans each, a ring with random links across: the largest sum beside the first link.\n");
+    random_row(["", "less", "equal", "greater", "mean ratio"]);
+    random_row(["---", "--:", "--:", "--:", "--:"]);
+    for sizes in [(8, 16), (12, 24), (12, 30), (16, 32)] {
+        let limit = scale.most;
+        random_plans("splits of a whole figure", sizes, S / 2, limit, |f| f.steps);
+    }
+    for (sizes, percent) in [
+        ((16, 40), 90),
+        ((32, 64), 99),
+        ((32, 64), 90),
+        ((32, 64), 50),
+    ] {
+        let (chance, limit) = (S / 100 * percent, scale.limit / 10);
+        let what = format!("high - low at {limit} steps, chances of 0.{percent}");
+        let width = |f: &Figure| u64::from(f.high - f.low);
+        random_plans(&what, sizes, chance, limit, width);
+    }
 }
 
 /// Prints the time of a whole listing, and returns the noise.
@@ -185,6 +352,10 @@ fn listings(scale: &Scale) -> f64 {
 fn main() {
     let whole = std::env::args().any(|word| word == "--bench");
     let scale = if whole { WHOLE } else { SMALL };
-    let noise = figures(&scale).max(listings(&scale));
+    let noise = figures(&scale);
+    whole_figures(&scale);
+    unfinished_figures(&scale);
+    random_figures(&scale);
+    let noise = noise.max(listings(&scale));
     println!("\nNoise: of the same work, the slowest run took up to {noise:.0} % longer than the fastest.");
 }

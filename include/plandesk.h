@@ -21,7 +21,7 @@
      6 + 256 * i   link i has a value from S + 1 to 2,147,483,647, or k above 511
      8             the link place is m or above
      10            the saved work has a wrong form
-     11            an open split of the saved work is not one that the rule comes to on this plan
+     11            an open split of the saved work is not one that the rule comes to on this plan, now or before
 
    Links are tested in order, 5 before 6 at each. 8 is of importance alone; the work buffer, 10 and 11 are of sitting alone.
 
@@ -82,6 +82,14 @@ uint64_t difference(const uint8_t *plan_a, size_t plan_a_len, const uint8_t *pla
    1,000,000 if that is less, and with the saved work of one first sitting under that limit. Work stopped by the 1,000,000
    stays begun, and later sittings give the same answer and the same saved work.
 
+   The rule splits on the link whose two ends have the most links together, the earliest of such links; before, it split on
+   the first link. Work set aside then is carried on: its open splits and the figures of their sound branches remain, and
+   each split that is not yet taken is by the rule of now. So is work in which sittings of then and of now took turns. Its
+   answers enclose the exact figure and are as narrow where they are finished, but neither their numbers nor their steps
+   need be those of figure. From the same saved work a larger limit gives a pair within that of a smaller one, and sittings
+   end as one under their total does. Such a sitting is unfinished exactly if the splits still to take are more than its
+   limit, or come to more than 1,000,000 with the steps so far.
+
    Saved work, all numbers little-endian, with c open splits:
 
      byte                bits      holds
@@ -104,8 +112,9 @@ uint64_t difference(const uint8_t *plan_a, size_t plan_a_len, const uint8_t *pla
    buffer handed back is refused, unless c is 64); if c is above 64, or above 0 where it is complete; if the state is
    neither 0 nor 1; if the steps are above 1,000,000; if a low or a high of an open split is above S, or a low is above
    its high, but for 1 and 0. It is refused by 11 if the rule, followed from the plan, comes to no split where one is
-   open, or to one at another place; 1 and 0 say that the next open split lies in the sound branch, every other pair that
-   it lies in the broken one. All of 10 is tested before 11.
+   open, or if its place there is neither that of the rule of now nor 0, that of the rule of before, each open split by
+   itself; 1 and 0 say that the next open split lies in the sound branch, every other pair that it lies in the broken one.
+   All of 10 is tested before 11.
 
    What is said of answers holds for saved work that came from earlier sittings of this very plan. Other bytes are tested
    as far as 10 and 11 say and no further: not whether the steps go with the open splits, nor whether the figures of an

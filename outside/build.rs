@@ -33,14 +33,21 @@ fn link_the_libraries() {
     }
 }
 
+/// With either choice of the link that is split on.
 fn link_the_rule_in_c() {
     let folder = PathBuf::from(env::var("OUT_DIR").unwrap());
-    let (object, archive) = (folder.join("rule.o"), folder.join("librule.a"));
-    let mut gcc = Command::new("gcc");
-    gcc.args(["-std=c11", "-O3", "-march=native"])
-        .args(WARNINGS);
-    ran(gcc.args(["-c", "c/rule.c", "-o"]).arg(&object));
-    ran(Command::new("ar").arg("rcs").arg(&archive).arg(&object));
+    let mut archive = Command::new("ar");
+    archive.arg("rcs").arg(folder.join("librule.a"));
+    for (choice, object) in [("LARGEST_SUM", "rule.o"), ("FIRST_LINK", "first_link.o")] {
+        let object = folder.join(object);
+        let mut gcc = Command::new("gcc");
+        gcc.args(["-std=c11", "-O3", "-march=native"])
+            .args(WARNINGS);
+        gcc.args(["-D", choice, "-c", "c/rule.c", "-o"]);
+        ran(gcc.arg(&object));
+        archive.arg(object);
+    }
+    ran(&mut archive);
     println!("cargo:rerun-if-changed=c/rule.c");
     println!("cargo:rustc-link-search=native={}", folder.display());
     println!("cargo:rustc-link-lib=static=rule");

@@ -1,6 +1,6 @@
 /* The written rule with slots and bit sets, for accepted plans. The slot of a link is its place in the plan, and a link keeps
    its slot, so slots in ascending order are links in list order. A set of links or of nodes is a number with one bit for each
-   slot or node. */
+   slot or node. Compiled with FIRST_LINK, step 7 takes the first link, as it did before, and the call has another name. */
 
 #include <stdbool.h>
 #include <stdint.h>
@@ -242,10 +242,34 @@ static inline Figure combined(Pair p, Figure sound, Figure broken)
 
 static Figure work(Network *g, uint64_t paired, uint64_t limit);
 
+#ifdef FIRST_LINK
+#define rule_figure rule_figure_first_link
+
+static inline int chosen(const Network *g)
+{
+    return first(g->links);
+}
+#else
+/* The earliest of the links whose two ends' link counts have the largest sum. */
+static inline int chosen(const Network *g)
+{
+    int slot = 0, most = 0;
+    for (uint64_t links = g->links; links != 0; links = without_first(links)) {
+        const uint8_t *ends = g->ends[first(links)];
+        int sum = __builtin_popcountll(g->at[ends[0]]) + __builtin_popcountll(g->at[ends[1]]);
+        if (sum > most) {
+            most = sum;
+            slot = first(links);
+        }
+    }
+    return slot;
+}
+#endif
+
 /* Step 7. */
 static inline Figure split(Network *g, uint64_t limit)
 {
-    int slot = first(g->links);
+    int slot = chosen(g);
     int a = g->ends[slot][0], b = g->ends[slot][1];
     Pair p = g->values[slot];
     remove_link(g, slot);

@@ -3,9 +3,10 @@
 
    SLIP is the number of a kind and eight more numbers. Of kinds 0 and 1: the call (0 check, 1 figure, 2 importance,
    3 difference, 4 sitting), what is wrong, by how much; and where: of an answer (kind 0) the least and the most links, whether
-   it is finished, the least and the most steps; of a refusal (kind 1) its number without the link. Of kinds 70 and more the
-   call, and of kind 76 a count. Of other kinds: none. */
+   it is finished, the least and the most steps; of a refusal (kind 1) its number without the link. Of kinds 70 to 83 the
+   call, and of kind 76 a count. Of kind 90 a slip of the choice, made in calls in C. Of other kinds: none. */
 
+#include "in_c.h"
 #include "plandesk.h"
 
 #include <sched.h>
@@ -505,7 +506,7 @@ static int is_odd(const struct call *c, long kind)
     return 80 <= kind && kind <= 83 && (uintptr_t)at[kind - 80] % 2 == 1;
 }
 
-/* Kinds 70 and more, of one call. */
+/* Kinds 70 to 83, of one call. */
 static uint64_t of_one_call(struct call *c, const long *s)
 {
     if (c->which != s[1])
@@ -517,6 +518,23 @@ static uint64_t of_one_call(struct call *c, const long *s)
     return returned;
 }
 
+/* Kind 90: the calls by the rule in C. */
+static uint64_t in_c(const struct call *c, long slip)
+{
+    switch (c->which) {
+    case CHECK:
+        return proved(c);
+    case FIGURE:
+        return in_c_figure(slip, c->a, c->a_len, c->limit, c->answer, c->room);
+    case IMPORTANCE:
+        return in_c_importance(slip, c->a, c->a_len, c->place, c->limit, c->answer, c->room);
+    case DIFFERENCE:
+        return in_c_difference(slip, c->a, c->a_len, c->b, c->b_len, c->limit, c->answer, c->room);
+    default:
+        return in_c_sitting(slip, c->a, c->a_len, c->limit, c->b, c->b_len, c->answer, c->room, c->work, c->work_room);
+    }
+}
+
 static uint64_t slipped(struct call c)
 {
     long s[9] = {-1, 0, 0, 0, 0, 0, 0, 0, 0};
@@ -526,6 +544,8 @@ static uint64_t slipped(struct call c)
         s[i] = strtol(text, &end, 10);
         text = end;
     }
+    if (s[0] == 90)
+        return in_c(&c, s[1]);
     struct call asked = c;
     uint64_t returned = s[0] >= 70 ? of_one_call(&asked, s) : otherwise(&asked, s);
     if (s[0] == 0)

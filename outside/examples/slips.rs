@@ -3,8 +3,8 @@
 //!
 //!     cargo run --release --offline --locked --manifest-path outside/Cargo.toml --example slips [WORD ..]
 //!
-//! tries the slips whose names have all the words, or all slips. It fails if a slip is not caught, or if a test fails without one,
-//! which is tried where no words are given.
+//! tries the slips whose names have all the words, or all slips. It fails if a slip is not caught, or if a test fails without one:
+//! the library is tried so where no words are given, the calls in C where slips of theirs are to be tried.
 
 use outside::programs::ran;
 use outside::repository::{library, path};
@@ -255,9 +255,44 @@ fn of_calls() -> Vec<Slip> {
     slips
 }
 
+/// Slips of the link that is split on and of work that is carried on, in the order of their numbers in `c/in_c.h`.
+const OF_CHOICE: [&str; 21] = [
+    "the largest product",
+    "the latest of equal sums",
+    "the counts of the plan",
+    "the largest count of one end",
+    "the largest count of the end with fewer links",
+    "the smallest sum",
+    "the first link",
+    "the first link where splits are open",
+    "the first link where it has taken an open split",
+    "11 refuses the first link",
+    "11 refuses the first link from the fourth open split on",
+    "11 refuses a mixture",
+    "11 refuses the largest sum",
+    "11 accepts any link's place",
+    "11 accepts any link's place from the fourth open split on",
+    "open splits are put at the largest sum",
+    "work of the first link starts over",
+    "the steps saved are forgotten",
+    "the steps saved are forgotten of work of the first link",
+    "place 0 is written for each open split",
+    "the place in the plan is written",
+];
+
+/// The kind of the calls in C.
+const IN_C: i64 = 90;
+
+fn of_choice() -> Vec<Slip> {
+    let numbered = (1..).zip(OF_CHOICE);
+    let slip = |(number, name)| slip(format!("choice: {name}"), &[IN_C, number]);
+    numbered.map(slip).collect()
+}
+
 fn slips() -> Vec<Slip> {
     let mut slips = of_refusals();
     slips.extend(of_calls());
+    slips.extend(of_choice());
     slips.extend(OTHERS.map(|(kind, name)| slip(name.into(), &[kind])));
     slips.extend(of_answers());
     slips
@@ -273,12 +308,14 @@ fn write_libraries(folder: &Path) {
         rename.arg(format!("--redefine-sym={call}=proved_{call}"));
     }
     ran(rename.arg(library("desk")).arg(&archive));
-    let object = folder.join("slips.o");
-    let flags = "-std=c11 -O1 -Wall -Wextra -Wpedantic -Werror -c -I";
-    let mut gcc = Command::new("gcc");
-    gcc.args(flags.split(' ')).arg(path("include")).arg("-o");
-    ran(gcc.arg(&object).arg(path("outside/c/slips.c")));
-    ran(Command::new("ar").arg("rs").arg(&archive).arg(&object));
+    for name in ["slips", "in_c"] {
+        let object = folder.join(format!("{name}.o"));
+        let flags = "-std=c11 -O2 -Wall -Wextra -Wpedantic -Werror -c -I";
+        let mut gcc = Command::new("gcc");
+        gcc.args(flags.split(' ')).arg(path("include")).arg("-o");
+        ran(gcc.arg(&object).arg(path(&format!("outside/c/{name}.c"))));
+        ran(Command::new("ar").arg("rs").arg(&archive).arg(&object));
+    }
 }
 
 /// The test programs of the gate, the documents, the arithmetic and the listing program, which do not make the calls.
@@ -375,21 +412,30 @@ fn tried(slip: &Slip, programs: &[PathBuf], before: &mut Vec<Trial>) -> Option<T
     Some(found)
 }
 
+/// Whether all tests pass with the library, or with the calls in C, that have no slip.
+fn right(programs: &[PathBuf], slip: Option<&Slip>) -> bool {
+    let tried = |program: &PathBuf| caught(&(program.clone(), None), slip);
+    let failed = programs.iter().find_map(tried);
+    if let Some(trial) = &failed {
+        println!("fails without a slip: {}", shown(trial));
+    }
+    failed.is_none()
+}
+
 fn main() -> ExitCode {
     let words: Vec<String> = std::env::args().skip(1).collect();
     let folder = path("target").join("slips");
     write_libraries(&folder);
     let programs = built(&folder.canonicalize().unwrap());
-    for program in programs.iter().filter(|_| words.is_empty()) {
-        if let Some(trial) = caught(&(program.clone(), None), None) {
-            println!("fails without a slip: {}", shown(&trial));
-            return ExitCode::FAILURE;
-        }
+    let mut slips = slips();
+    slips.retain(|slip| words.iter().all(|word| slip.name.contains(word)));
+    let in_c = slips.iter().any(|slip| slip.numbers[0] == IN_C);
+    let none = slip("none".into(), &[IN_C, 0]);
+    if words.is_empty() && !right(&programs, None) || in_c && !right(&programs, Some(&none)) {
+        return ExitCode::FAILURE;
     }
-    let (mut before, mut missed, mut count) = (Vec::new(), Vec::new(), 0);
-    let fits = |slip: &Slip| words.iter().all(|word| slip.name.contains(word));
-    for slip in slips().iter().filter(|slip| fits(slip)) {
-        count += 1;
+    let (mut before, mut missed) = (Vec::new(), Vec::new());
+    for slip in &slips {
         match tried(slip, &programs, &mut before) {
             Some(trial) => println!("{}: caught by {}", slip.name, shown(&trial)),
             None => {
@@ -398,6 +444,6 @@ fn main() -> ExitCode {
             }
         }
     }
-    println!("{count} slips, {} not caught", missed.len());
+    println!("{} slips, {} not caught", slips.len(), missed.len());
     ExitCode::from(u8::from(!missed.is_empty()))
 }

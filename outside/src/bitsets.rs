@@ -2,13 +2,22 @@
 
 use crate::calls::read;
 use crate::plans::{Link, Plan};
-use crate::rule::Figure;
+use crate::rule::{Choice, Figure};
 
 mod c {
     use crate::rule::Figure;
 
+    pub type Rule = unsafe extern "C" fn(u32, u32, *const u8, *const u32, u64) -> Figure;
+
     extern "C" {
         pub fn rule_figure(
+            n: u32,
+            m: u32,
+            ends: *const u8,
+            values: *const u32,
+            limit: u64,
+        ) -> Figure;
+        pub fn rule_figure_first_link(
             n: u32,
             m: u32,
             ends: *const u8,
@@ -20,10 +29,19 @@ mod c {
 
 /// The figure of a plan that is accepted.
 pub fn figure(plan: &Plan, limit: u64) -> Figure {
+    figure_by(Choice::LargestSum, plan, limit)
+}
+
+/// The figure by the rule with this choice.
+pub fn figure_by(choice: Choice, plan: &Plan, limit: u64) -> Figure {
+    let rule: c::Rule = match choice {
+        Choice::FirstLink => c::rule_figure_first_link,
+        Choice::LargestSum => c::rule_figure,
+    };
     assert_eq!(read(&plan.bytes()).as_ref(), Ok(plan));
     let (n, m) = (plan.nodes.into(), plan.links.len() as u32);
     let ends: Vec<u8> = plan.links.iter().flat_map(|link| link.ends).collect();
     let values: Vec<u32> = plan.links.iter().map(Link::units).collect();
     // SAFETY: the plan is accepted, and there are 2 * m ends and m values.
-    unsafe { c::rule_figure(n, m, ends.as_ptr(), values.as_ptr(), limit) }
+    unsafe { rule(n, m, ends.as_ptr(), values.as_ptr(), limit) }
 }

@@ -69,7 +69,7 @@ impl Plan {
         Plan::alike(nodes.into(), value, &ends)
     }
 
-    /// A ring of ten nodes with all its chords but three, and a path of 22 nodes at one of them. It needs 27,261 splits, and
+    /// A ring of ten nodes with all its chords but three, and a path of 22 nodes at one of them. It needs 27,368 splits, and
     /// its deepest branch goes through 64 steps, of which all but two are ends, series and splits: what those leave has to be
     /// worked before they are done.
     pub fn deepest() -> Plan {
@@ -78,6 +78,22 @@ impl Plan {
         let path = (10..32).map(|v| [v - 1, v]);
         let ends: Vec<[u8; 2]> = core.chain(path).collect();
         Plan::alike(32, S / 10 * 9, &ends)
+    }
+
+    /// A ring of all nodes, at least three, and other pairs of nodes, so many links in all if there are enough pairs, in any order
+    /// and with any values.
+    pub fn meshed(random: &mut Random, nodes: u8, count: usize) -> Plan {
+        let ring = |a: u8, b: u8| b - a == 1 || b - a == nodes - 1;
+        let mut all: Vec<[u8; 2]> = every_pair(nodes).collect();
+        random.shuffle(&mut all);
+        all.sort_by_key(|[a, b]| !ring(*a, *b));
+        all.truncate(count);
+        random.shuffle(&mut all);
+        let mut plan = Plan::alike(nodes.into(), 0, &all);
+        for link in &mut plan.links {
+            link.value = random_value(random);
+        }
+        plan
     }
 
     /// An accepted plan, of few or many nodes.

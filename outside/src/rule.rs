@@ -1,8 +1,19 @@
-//! The written rule, straightforwardly: a network is a list of nodes and a list of links, handed on by value.
+//! The written rule, straightforwardly: a network is a list of nodes and a list of links, handed on by value. Step 7 takes the
+//! link of the largest sum; the first link, which it took before, is kept for saved work from then.
 
 use crate::arithmetic::{factor, parallel, product, series, split, Side, S, SIDES};
 use crate::plans::Plan;
 use std::fmt::{self, Display, Formatter};
+
+/// The link that step 7 splits on.
+#[derive(Clone, Copy, Debug, PartialEq, Eq)]
+pub enum Choice {
+    FirstLink,
+    /// The link whose two ends' link counts have the largest sum, and the earliest of such links.
+    LargestSum,
+}
+
+pub const CHOICES: [Choice; 2] = [Choice::FirstLink, Choice::LargestSum];
 
 #[derive(Clone, Copy, Debug)]
 pub(crate) struct Link {
@@ -73,11 +84,11 @@ pub(crate) struct Split {
     pub broken: Network,
 }
 
-/// What is left to be done after the first step that fits.
+/// What is left to be done after the first step that fits: nothing, the rest and a factor, or a split of this network.
 pub(crate) enum Step {
     Known(u32),
     Rest(Network, [u32; 2]),
-    Split(Split),
+    Split(Network),
 }
 
 /// The fields stand in memory as those of the figure in `c/rule.c`.
@@ -200,14 +211,38 @@ impl Network {
             let rest = self.joined(at[0], at[1], ends, both(series, &p, &q));
             return Step::Rest(rest.without_node(v), both(factor, &p, &q));
         }
-        let link = self.links[0];
-        let broken = self.without_link(0);
-        Step::Split(Split {
-            place: 0,
+        Step::Split(self)
+    }
+
+    /// The place of the link that the choice takes.
+    pub(crate) fn chosen(&self, choice: Choice) -> usize {
+        match choice {
+            Choice::FirstLink => 0,
+            Choice::LargestSum => self.largest_sum(),
+        }
+    }
+
+    fn largest_sum(&self) -> usize {
+        let mut counts = [0; 32];
+        for end in self.links.iter().flat_map(|link| link.ends) {
+            counts[usize::from(end)] += 1;
+        }
+        let sum = |link: &Link| link.ends.map(|v| counts[usize::from(v)]).iter().sum();
+        let sums: Vec<usize> = self.links.iter().map(sum).collect();
+        let most = sums.iter().max().expect("a split has links");
+        sums.iter().position(|sum| sum == most).unwrap()
+    }
+
+    /// The split on the link at `place`, which is no loop.
+    pub(crate) fn split(self, place: usize) -> Split {
+        let link = self.links[place];
+        let broken = self.without_link(place);
+        Split {
+            place: place as u32,
             link,
             sound: broken.clone().contracted(link.ends),
             broken,
-        })
+        }
     }
 
     /// The network with the link at `place` sound, and with it broken.
@@ -253,13 +288,20 @@ impl Figure {
 }
 
 pub fn figure(network: Network, limit: u64) -> Figure {
+    figure_by(Choice::LargestSum, network, limit)
+}
+
+/// The figure by the rule with this choice.
+pub fn figure_by(choice: Choice, network: Network, limit: u64) -> Figure {
     match network.step() {
         Step::Known(value) => Figure::known(value),
-        Step::Rest(rest, factors) => figure(rest, limit).times(factors),
+        Step::Rest(rest, factors) => figure_by(choice, rest, limit).times(factors),
         Step::Split(_) if limit == 0 => Figure::unknown(),
-        Step::Split(taken) => {
-            let sound = figure(taken.sound, limit - 1);
-            let broken = figure(taken.broken, limit - 1 - sound.steps);
+        Step::Split(network) => {
+            let place = network.chosen(choice);
+            let taken = network.split(place);
+            let sound = figure_by(choice, taken.sound, limit - 1);
+            let broken = figure_by(choice, taken.broken, limit - 1 - sound.steps);
             taken.link.mixed(sound, broken)
         }
     }
@@ -267,10 +309,19 @@ pub fn figure(network: Network, limit: u64) -> Figure {
 
 /// The splits that the network needs.
 pub fn needed(network: Network) -> u64 {
+    needed_by(Choice::LargestSum, network)
+}
+
+/// The splits that it needs by the rule with this choice.
+pub fn needed_by(choice: Choice, network: Network) -> u64 {
     match network.step() {
         Step::Known(_) => 0,
-        Step::Rest(rest, _) => needed(rest),
-        Step::Split(taken) => 1 + needed(taken.sound) + needed(taken.broken),
+        Step::Rest(rest, _) => needed_by(choice, rest),
+        Step::Split(network) => {
+            let place = network.chosen(choice);
+            let taken = network.split(place);
+            1 + needed_by(choice, taken.sound) + needed_by(choice, taken.broken)
+        }
     }
 }
 

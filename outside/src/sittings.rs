@@ -1,10 +1,10 @@
 //! A run that is set aside and carried on, one split after the other: those that are open lie on a stack, the outermost lowest.
-//! What a sitting should answer and write.
+//! What a sitting should answer and write. An open split stays at its link, whichever choice took it.
 
 use crate::arithmetic::S;
 use crate::calls::{answer_bytes, asked, number, read, ANSWER, MOST_STEPS};
 use crate::plans::Plan;
-use crate::rule::{figure, Figure, Link, Network, Split, Step};
+use crate::rule::{figure, needed, Choice, Figure, Link, Network, Step, CHOICES};
 
 /// The bytes that a buffer for saved work has to have.
 pub const WORK: usize = 776;
@@ -68,6 +68,15 @@ impl Begun {
         }
     }
 
+    /// The outermost open splits alone, so many of them.
+    pub fn first(&self, count: usize) -> Begun {
+        Begun {
+            places: self.places[..count].into(),
+            pairs: self.pairs[..count].into(),
+            steps: self.steps,
+        }
+    }
+
     fn wrong(&self) -> bool {
         let wrong = |pair: &[u32; 2]| {
             let [low, high] = *pair;
@@ -120,10 +129,11 @@ struct Open {
     waits: Waits,
 }
 
-/// A network with steps 1 to 6 taken as often as they fit: the factors that they leave, and what is known then or the split.
+/// A network with steps 1 to 6 taken as often as they fit: the factors that they leave, and what is known then or the network to
+/// split.
 struct Reduced {
     factors: Vec<[u32; 2]>,
-    end: Result<u32, Split>,
+    end: Result<u32, Network>,
 }
 
 fn reduced(mut network: Network) -> Reduced {
@@ -131,7 +141,7 @@ fn reduced(mut network: Network) -> Reduced {
     loop {
         let end = match network.step() {
             Step::Known(value) => Ok(value),
-            Step::Split(split) => Err(split),
+            Step::Split(left) => Err(left),
             Step::Rest(rest, factor) => {
                 factors.push(factor);
                 network = rest;
@@ -184,10 +194,13 @@ impl Run {
         let mut next = plan;
         for (place, pair) in begun.places.iter().zip(&begun.pairs) {
             let Reduced { factors, end } = reduced(next);
-            let split = end.err().ok_or(11u64)?;
-            if *place != split.place {
+            let left = end.err().ok_or(11u64)?;
+            let chosen = CHOICES.map(|choice| left.chosen(choice));
+            let place = usize::try_from(*place).unwrap();
+            if !chosen.contains(&place) {
                 return Err(11);
             }
+            let split = left.split(place);
             let waits;
             (waits, next) = if *pair == RUNNING {
                 let broken = split.broken;
@@ -235,18 +248,28 @@ impl Run {
         whole
     }
 
-    /// Works the network and what is open, with so many steps more at most. `at_split` is told how many splits are open at
-    /// each that the run comes to.
+    /// How many splits are still to take, the network being worked next.
+    fn still(&self, next: Network) -> u64 {
+        let behind = self.open.iter().map(|open| match &open.waits {
+            Waits::ForSound { broken } => needed(broken.clone()),
+            Waits::ForBroken { .. } => 0,
+        });
+        needed(next) + behind.sum::<u64>()
+    }
+
+    /// Works the network and what is open, with so many steps more at most, each a split by this choice. `at_split` is told how
+    /// many splits are open at each that the run comes to.
     fn carry_on(
         &mut self,
         mut next: Network,
+        choice: Choice,
         limit: u64,
         mut at_split: impl FnMut(usize),
     ) -> Figure {
         let most = self.taken + limit;
         loop {
             let Reduced { factors, end } = reduced(next);
-            let split = match end {
+            let left = match end {
                 Ok(value) => match self.branch_known(multiplied(Figure::known(value), &factors)) {
                     Ok(whole) => return whole,
                     Err(broken) => {
@@ -254,13 +277,15 @@ impl Run {
                         continue;
                     }
                 },
-                Err(split) => split,
+                Err(left) => left,
             };
             at_split(self.open.len());
             if self.taken == most {
                 return self.set_aside(multiplied(Figure::unknown(), &factors));
             }
             self.taken += 1;
+            let place = left.chosen(choice);
+            let split = left.split(place);
             next = split.sound;
             self.open.push(Open {
                 factors,
@@ -294,6 +319,16 @@ impl Run {
 impl Sitting<'_> {
     /// What the sitting should write to buffers of these sizes, or the number that it is refused with.
     pub fn outcome(&self, answer_room: usize, work_room: usize) -> Result<Sat, u64> {
+        self.outcome_by(Choice::LargestSum, answer_room, work_room)
+    }
+
+    /// The same where every split that it takes is by this choice.
+    pub fn outcome_by(
+        &self,
+        choice: Choice,
+        answer_room: usize,
+        work_room: usize,
+    ) -> Result<Sat, u64> {
         asked(self.limit, answer_room)?;
         if work_room < WORK {
             return Err(9);
@@ -307,7 +342,7 @@ impl Sitting<'_> {
             Saved::Begun(begun) => {
                 let (mut run, next) = Run::resumed(plan, &begun)?;
                 let limit = self.limit.min(MOST_STEPS - run.taken);
-                let figure = run.carry_on(next, limit, |_| ());
+                let figure = run.carry_on(next, choice, limit, |_| ());
                 Ok(run.sat(figure))
             }
         }
@@ -337,15 +372,38 @@ pub fn held_into(sitting: &Sitting, answer: usize, work: usize) -> Result<Sat, u
     outcome
 }
 
+/// How many splits saved work that is begun and accepted has still to take.
+pub fn still_to_take(plan: &[u8], begun: &Begun) -> u64 {
+    let plan = Network::from(&read(plan).expect("the plan is accepted"));
+    let (run, next) = Run::resumed(plan, begun).expect("the open splits are accepted");
+    run.still(next)
+}
+
+/// The places that the choices take at each open split of accepted work, first link and largest sum.
+pub fn places_chosen(plan: &[u8], begun: &Begun) -> Vec<[u32; 2]> {
+    let plan = Network::from(&read(plan).expect("the plan is accepted"));
+    let at = |i: usize| {
+        let (_, next) = Run::resumed(plan.clone(), &begun.first(i)).unwrap();
+        let left = reduced(next).end.err().unwrap();
+        CHOICES.map(|choice| left.chosen(choice) as u32)
+    };
+    (0..begun.places.len()).map(at).collect()
+}
+
 /// The most splits that are ever open when the plan is worked within so many steps, and after how many steps they are first.
 pub fn most_open(plan: &[u8], limit: u64) -> (usize, u64) {
+    most_open_by(Choice::LargestSum, plan, limit)
+}
+
+/// The same by the rule with this choice.
+pub fn most_open_by(choice: Choice, plan: &[u8], limit: u64) -> (usize, u64) {
     let plan = Network::from(&read(plan).expect("the plan is accepted"));
     let mut run = Run {
         open: Vec::new(),
         taken: 0,
     };
     let (mut most, mut steps) = ((0, 0), 0);
-    run.carry_on(plan, limit, |open| {
+    run.carry_on(plan, choice, limit, |open| {
         if open > most.0 {
             most = (open, steps);
         }
@@ -354,7 +412,8 @@ pub fn most_open(plan: &[u8], limit: u64) -> (usize, u64) {
     most
 }
 
-/// Twelve nodes and 64 links, of which the last 18 leave three at each node: the first 46 may all be open, with nine more behind.
+/// Twelve nodes and 64 links, of which the last 18 leave three at each node: by the first link's rule the first 46 may all be open,
+/// with nine more behind.
 pub fn most_splits() -> (Plan, Begun) {
     let round = (0..12).map(|v| [v, (v + 1) % 12]);
     let across = (0..6).map(|v| [v, v + 6]);

@@ -135,19 +135,19 @@ fn hold_one_ended(nodes: u8, needed: u64, needed_of_less: u64) {
 
 #[test]
 fn one_of_two_evaluations_ends() {
-    for (nodes, needed, less) in [(8, 719, 119), (9, 5_039, 719), (10, 40_319, 5_039)] {
+    for (nodes, needed, less) in [(8, 722, 119), (9, 5_054, 722), (10, 40_528, 5_054)] {
         hold_one_ended(nodes, needed, less);
     }
 }
 
 #[test]
 fn complete_graphs_of_few_splits() {
-    for (nodes, needed) in [(7, 119), (8, 719), (9, 5_039), (10, 40_319)] {
+    for (nodes, needed) in [(7, 119), (8, 722), (9, 5_054), (10, 40_528)] {
         hold_complete(nodes, needed);
     }
 }
 
 #[test]
 fn complete_graph_of_many_splits() {
-    hold_complete(11, 362_879);
+    hold_complete(11, 364_346);
 }

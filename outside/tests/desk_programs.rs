@@ -6,6 +6,7 @@ use outside::desk::pattern;
 use outside::plans::{damaged, Plan};
 use outside::programs::{compiled, ran};
 use outside::random::Random;
+use outside::rule::{Choice, CHOICES};
 use outside::sittings::{self, Sitting, NOTHING, WORK};
 use std::fs::{self, File};
 use std::path::{Path, PathBuf};
@@ -153,11 +154,11 @@ fn the_largest_plans_under_a_memory_checker() {
     checked(&calls, "largest");
 }
 
-/// The work of a first sitting.
-fn saved(plan: &[u8], limit: u64) -> Vec<u8> {
+/// The work of a first sitting by either choice.
+fn saved(choice: Choice, plan: &[u8], limit: u64) -> Vec<u8> {
     let saved = &NOTHING;
     let first = Sitting { plan, limit, saved };
-    first.outcome(16, WORK).unwrap().work
+    first.outcome_by(choice, 16, WORK).unwrap().work
 }
 
 /// Work carried on, and damaged in every byte, cut and lengthened; and damaged plans.
@@ -171,8 +172,9 @@ fn sittings_under_a_memory_checker() {
         Plan::random_of(&mut random, 20, 64),
     ];
     for plan in plans.map(|plan| plan.bytes()) {
-        for steps in [0, 1, 5, 17, 60] {
-            let saved = saved(&plan, steps);
+        let steps = [0, 1, 5, 17, 60].into_iter();
+        for (steps, choice) in steps.flat_map(|steps| CHOICES.map(|choice| (steps, choice))) {
+            let saved = saved(choice, &plan, steps);
             let damaged_work = damaged(&mut random, &saved);
             let mut sat = |plan: &[u8], saved: &[u8]| {
                 let limit = random.up_to(12);
@@ -189,7 +191,7 @@ fn sittings_under_a_memory_checker() {
             let whole = [&saved[..], &pattern(WORK - saved.len())].concat();
             sat(&plan, &whole);
         }
-        let good = saved(&plan, 9);
+        let good = saved(Choice::LargestSum, &plan, 9);
         for plan in damaged(&mut random, &plan).iter().step_by(5) {
             let (limit, saved) = (random.up_to(12), &good);
             trials.push(trial_of_sitting(

@@ -6,8 +6,8 @@ use outside::desk::{hold, hold_sitting, made, pattern, sat};
 use outside::plans::Plan;
 use outside::random::Random;
 use outside::repository::plan;
-use outside::rule::{needed, Network};
-use outside::sittings::{self, most_open, most_splits, Sat, Sitting, NOTHING, RUNNING, WORK};
+use outside::rule::{needed, Choice, Network};
+use outside::sittings::{self, most_open_by, most_splits, Sat, Sitting, NOTHING, RUNNING, WORK};
 use std::thread;
 
 const STACK: usize = 512 * 1024;
@@ -26,7 +26,7 @@ fn on_a_small_stack(call: Call) {
 
 #[test]
 fn the_worst_chain_of_splits() {
-    assert_eq!(needed(Network::from(&Plan::deepest())), 27_261);
+    assert_eq!(needed(Network::from(&Plan::deepest())), 27_368);
     let plan = &Plan::deepest().bytes();
     let limit = MOST_STEPS;
     on_a_small_stack(Call::Check { plan });
@@ -72,17 +72,23 @@ fn sitting_on_a_small_stack(sitting: &Sitting) -> Sat {
     outcome.unwrap()
 }
 
-/// Set aside where most splits are open, carried on by a step, and then to the end.
+/// Set aside where most splits are open, by either choice, carried on by a step, and then to the end.
 #[test]
 fn the_worst_chain_of_splits_carried_on() {
-    for (plan, open, after) in [
-        (Plan::deepest(), 32, 27_250),
-        (Plan::complete(10, S / 3), 27, 40_198),
+    for (choice, plan, open, after) in [
+        (Choice::FirstLink, Plan::deepest(), 32, 27_250),
+        (Choice::LargestSum, Plan::deepest(), 32, 26_894),
+        (Choice::LargestSum, Plan::complete(10, S / 3), 37, 40_264),
     ] {
         let plan = &plan.bytes();
-        assert_eq!(most_open(plan, MOST_STEPS), (open, after));
-        let mut saved = NOTHING.to_vec();
-        for (limit, state) in [(after, 0), (1, 0), (MOST_STEPS, 1)] {
+        assert_eq!(most_open_by(choice, plan, MOST_STEPS), (open, after));
+        let (limit, saved) = (after, &NOTHING);
+        let first = Sitting { plan, limit, saved };
+        let mut saved = first.outcome_by(choice, 16, WORK).unwrap().work;
+        if choice == Choice::LargestSum {
+            assert_eq!(saved, sitting_on_a_small_stack(&first).work);
+        }
+        for (limit, state) in [(0, 0), (1, 0), (MOST_STEPS, 1)] {
             let sitting = Sitting {
                 plan,
                 limit,

@@ -73,7 +73,7 @@ fn the_second_crossing() {
     let names = ["two-crossings", "one-crossing"];
     let [a, b] = names.map(|name| path(&format!("plans/{name}.plan")));
     let [first, second] = names.map(plan);
-    for limit in [0, 5, 43, 54, 55, 1_000_000, 1_000_001] {
+    for limit in [0, 5, 56, 57, 155, 156, 1_000_000, 1_000_001] {
         let word = limit.to_string();
         let (status, text, said) = run(&program, &[&a, &b, Path::new(&word)]);
         assert_eq!(text, lines(&first, &second, limit));

@@ -6,7 +6,7 @@ use outside::calls::{answer_bytes, held, read, Call};
 use outside::desk::hold;
 use outside::plans::{Plan, LENGTH};
 use outside::random::Random;
-use outside::rule::{figure, needed, Answer, Network};
+use outside::rule::{figure, needed, needed_by, Answer, Network, CHOICES};
 use outside::states::Exact;
 use std::cmp::Ordering;
 
@@ -130,20 +130,24 @@ fn loops_do_not_count() {
     assert_eq!(worked(&Plan::alike(3, HALF, &ends), 0), expected);
 }
 
-/// At a node of the complete graph on n nodes, n - 3 splits and a series each leave the complete graph on one node less: so
-/// it ends in (n - 2)! networks. That number is known not to depend on the links that are chosen.
+/// By the first link, n - 3 splits at a node of the complete graph on n nodes and a series each leave the complete graph on one
+/// node less: so it ends in (n - 2)! networks. The largest sum leaves as many up to seven nodes, and then some more.
 #[test]
 fn splits_of_the_complete_graphs() {
     let mut random = Random::new(5);
     for (nodes, ends) in [(3, 1), (4, 2), (5, 6), (6, 24), (7, 120), (8, 720)] {
         let mut plan = Plan::complete(nodes, HALF);
         for _ in 0..3 {
-            assert_eq!(needed(Network::from(&plan)), ends - 1, "{plan:?}");
-            let whole = worked(&plan, ends - 1);
-            assert_eq!((whole.steps, whole.finished), (ends - 1, true));
+            let [first_link, largest_sum] =
+                CHOICES.map(|choice| needed_by(choice, Network::from(&plan)));
+            assert_eq!(first_link, ends - 1, "{plan:?}");
+            assert!(largest_sum == first_link || nodes == 8, "{plan:?}");
+            let whole = worked(&plan, largest_sum);
+            assert_eq!((whole.steps, whole.finished), (largest_sum, true));
             random.shuffle(&mut plan.links);
         }
     }
+    assert_eq!(needed(Network::from(&Plan::complete(8, HALF))), 722);
 }
 
 #[test]

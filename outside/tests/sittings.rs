@@ -7,7 +7,7 @@ use outside::plans::{Link, Plan};
 use outside::random::Random;
 use outside::repository::{plan, plans_with};
 use outside::rule::{needed, Answer, Network};
-use outside::sittings::{held, held_into, sizes, Begun, Sat, Sitting, NOTHING, RUNNING, WORK};
+use outside::sittings::{held, held_into, sizes, Begun, Sat, Sitting, NOTHING, WORK};
 
 fn first(plan: &[u8], limit: u64) -> Sat {
     carried(plan, limit, &NOTHING)
@@ -216,7 +216,7 @@ fn large_plans() {
 #[test]
 fn complete_graphs() {
     let mut random = Random::new(93);
-    for (nodes, needed) in [(9, 5_039), (10, 40_319), (11, 362_879)] {
+    for (nodes, needed) in [(9, 5_054), (10, 40_528), (11, 364_346)] {
         let file = with_values(&mut random, Plan::complete(nodes, 0)).bytes();
         let third = needed / 3;
         hold_sittings(&file, &[third, third, needed - 1 - 2 * third]);
@@ -385,7 +385,8 @@ fn nothing_set_aside_without_a_step() {
 }
 
 /// The bytes of saved work, written out. Five nodes, each two joined by a half, need five splits: the first, one of its sound
-/// branch and three of its broken one.
+/// branch and three of its broken one. In the broken branch nodes 2, 3 and 4 have four links each, and their first link is the
+/// fifth; with it broken too, node 4 alone has four, and its first link is the fifth.
 #[test]
 fn the_bytes_of_five_nodes() {
     let file = Plan::complete(5, S / 2).bytes();
@@ -417,9 +418,26 @@ fn the_bytes_of_five_nodes() {
     };
     let known = pair(&sound);
     assert_eq!(work(2), begun(&[0], &[known], 2));
-    assert_eq!(work(3), begun(&[0, 0], &[known, RUNNING], 3));
-    assert_eq!(work(4)[..8], [2, 0, 0, 0, 4, 0, 0, 0]);
-    assert_eq!(Begun::of(&work(4)).pairs[0], known);
+    // Where nodes 2 and 3 are one, no split is left; the same where nodes 0 and 4 are.
+    let [two, three] = [S / 4 * 3, S / 2];
+    let merged = [
+        (0, 2, two),
+        (1, 2, two),
+        (0, 3, three),
+        (1, 3, three),
+        (2, 3, two),
+    ];
+    let inner = pair(&Plan::new(4, &merged));
+    assert_eq!(work(3), begun(&[0, 4], &[known, inner], 3));
+    let merged = [
+        (0, 2, two),
+        (1, 2, three),
+        (0, 3, two),
+        (1, 3, three),
+        (0, 1, three),
+    ];
+    let innermost = pair(&Plan::new(4, &merged));
+    assert_eq!(work(4), begun(&[0, 4, 4], &[known, inner, innermost], 4));
     let answered = in_one_run(&file, 5);
     assert_eq!(work(5), [vec![0, 0, 1, 0, 5, 0, 0, 0], answered].concat());
 }

@@ -8,8 +8,8 @@ use outside::random::Random;
 use outside::repository::plan;
 use outside::rule::{needed, Network};
 use outside::sittings::{
-    held, held_into, most_open, most_splits, sizes, Begun, Sitting, MOST_OPEN, NOTHING, RUNNING,
-    WORK,
+    held, held_into, most_open, most_splits, places_chosen, sizes, Begun, Sitting, MOST_OPEN,
+    NOTHING, RUNNING, WORK,
 };
 
 /// How many outcomes there were of each kind.
@@ -257,7 +257,7 @@ fn with_most_open_splits() -> [(Vec<u8>, Begun); 2] {
     let deepest = Plan::deepest().bytes();
     let first = Sitting {
         plan: &deepest,
-        limit: 27_250,
+        limit: 26_894,
         saved: &NOTHING,
     };
     let begun = Begun::of(&held(&first).unwrap().work);
@@ -265,12 +265,16 @@ fn with_most_open_splits() -> [(Vec<u8>, Begun); 2] {
     [(plan.bytes(), work), (deepest, begun)]
 }
 
-const PLACES: [u32; 11] = [
+/// A place that no link has.
+const NO_PLACE: u32 = 64;
+
+const PLACES: [u32; 12] = [
+    0,
     1,
     2,
     3,
     63,
-    64,
+    NO_PLACE,
     255,
     256,
     65_536,
@@ -279,7 +283,7 @@ const PLACES: [u32; 11] = [
     u32::MAX,
 ];
 
-/// Each place with other numbers: 11, whichever open split it is.
+/// Each place with other numbers: 11, whichever open split it is, but for the two places that may be chosen there.
 #[test]
 fn every_place() {
     let mut tried = Tried::default();
@@ -288,8 +292,8 @@ fn every_place() {
         .chain(with_most_open_splits())
     {
         assert_eq!(tried.hold(&plan, 7, &work.bytes()), 0);
-        for i in 0..work.places.len() {
-            for place in PLACES {
+        for (i, chosen) in places_chosen(&plan, &work).iter().enumerate() {
+            for place in PLACES.into_iter().filter(|place| !chosen.contains(place)) {
                 let mut other = work.clone();
                 other.places[i] = place;
                 assert_eq!(tried.hold(&plan, 7, &other.bytes()), 11, "{i}: {place}");
@@ -329,14 +333,14 @@ fn ten_before_eleven() {
             for j in 0..work.pairs.len() {
                 for pair in [[2, 1], [S + 1, S + 1], [1, S + 1], [S, 0]] {
                     let mut other = work.clone();
-                    other.places[i] = 1;
+                    other.places[i] = NO_PLACE;
                     assert_eq!(tried.hold(&plan, 7, &other.bytes()), 11);
                     other.pairs[j] = pair;
                     assert_eq!(tried.hold(&plan, 7, &other.bytes()), 10);
                 }
             }
             let mut other = work.clone();
-            other.places[i] = 1;
+            other.places[i] = NO_PLACE;
             other.steps = 1_000_001;
             assert_eq!(tried.hold(&plan, 7, &other.bytes()), 10);
             other.steps = 1_000_000;

@@ -1,0 +1,405 @@
+/* The figure, the importance, the difference and the sitting by the rule in C, with one slip of the choice or none: what the kinds
+   of c/slips.c from 90 on put in the place of the library. Nothing is proved of it. That it passes all tests without a slip is
+   tried before the slips are. */
+
+#include "in_c.h"
+
+#define rule_figure in_c_rule_figure
+#include "rule.c"
+
+#include <string.h>
+
+#define MOST_OPEN 64
+#define MOST_STEPS 1000000
+
+uint64_t proved_check(const uint8_t *plan, size_t plan_len);
+
+/* A run: its slip, the links at each node of the plan, the open splits that it was handed, those that it leaves. */
+struct run {
+    long slip;
+    bool carried;
+    int links_at[MOST_NODES];
+    int count, left;
+    uint32_t places[MOST_OPEN], places_left[MOST_OPEN];
+    Pair pairs[MOST_OPEN], pairs_left[MOST_OPEN];
+};
+
+static uint32_t word(const uint8_t *at)
+{
+    return at[0] | at[1] << 8 | at[2] << 16 | (uint32_t)at[3] << 24;
+}
+
+static void put(uint8_t *at, uint32_t number)
+{
+    for (int i = 0; i < 4; i++)
+        at[i] = number >> 8 * i;
+}
+
+static uint32_t units(uint32_t value)
+{
+    uint64_t chance = S;
+    if (value <= S)
+        return value;
+    for (uint32_t k = value - 2147483648u; k > 0; k--)
+        chance = chance * 999700000 / S;
+    return chance;
+}
+
+/* An accepted plan's network. */
+static Network network_of(const uint8_t *plan)
+{
+    Network g = {0};
+    int m = plan[2];
+    for (int i = 0; i < m; i++) {
+        int a = plan[4 + 2 * i], b = plan[5 + 2 * i];
+        uint32_t value = units(word(plan + 4 + 2 * m + 4 * i));
+        if (a == b)
+            continue;
+        g.links |= link_bit(i);
+        g.at[a] |= link_bit(i);
+        g.at[b] |= link_bit(i);
+        g.ends[i][0] = a;
+        g.ends[i][1] = b;
+        g.values[i] = (Pair){value, value};
+    }
+    for (int v = 0; v < MOST_NODES; v++)
+        tally(&g, v);
+    return g;
+}
+
+static uint32_t place_of(const Network *g, int slot)
+{
+    return __builtin_popcountll(g->links & (link_bit(slot) - 1));
+}
+
+static int slot_of(const Network *g, uint32_t place)
+{
+    uint64_t links = g->links;
+    while (place-- > 0)
+        links = without_first(links);
+    return first(links);
+}
+
+static int links_at(const struct run *r, const Network *g, int node)
+{
+    return r->slip == PLAN_COUNTS ? r->links_at[node] : __builtin_popcountll(g->at[node]);
+}
+
+/* What of a link has to be largest. */
+static int weight(const struct run *r, const Network *g, int slot)
+{
+    int x = links_at(r, g, g->ends[slot][0]), y = links_at(r, g, g->ends[slot][1]);
+    switch (r->slip) {
+    case PRODUCT:
+        return x * y;
+    case LARGER_END:
+        return x > y ? x : y;
+    case SMALLER_END:
+        return x < y ? x : y;
+    case SMALLEST_SUM:
+        return 1000 - x - y;
+    default:
+        return x + y;
+    }
+}
+
+/* The slot of the link that step 7 takes. */
+static int choice(const struct run *r, const Network *g)
+{
+    int slot = first(g->links);
+    for (uint64_t links = g->links; links != 0; links = without_first(links)) {
+        int next = first(links), more = weight(r, g, next) - weight(r, g, slot);
+        if (more > 0 || (more == 0 && r->slip == LATEST))
+            slot = next;
+    }
+    return slot;
+}
+
+/* Check 11 of one open split. */
+static bool is_chosen(const struct run *r, const Network *g, int i)
+{
+    uint32_t place = r->places[i], count = __builtin_popcountll(g->links), most = place_of(g, choice(r, g));
+    switch (r->slip) {
+    case FIRST_REFUSED:
+        return place == most;
+    case INNER_FIRST_REFUSED:
+        return place == most || (place == 0 && i < 3);
+    case LARGEST_REFUSED:
+        return place == 0;
+    case ANY_PLACE:
+        return place < count;
+    case ANY_INNER_PLACE:
+        return place == 0 || place == most || (i > 2 && place < count);
+    default:
+        return place == 0 || place == most;
+    }
+}
+
+/* The network of one branch of the split at a slot: what is left of it, and the links that may have partners. */
+static uint64_t branch(Network *g, int slot, bool sound)
+{
+    int a = g->ends[slot][0], b = g->ends[slot][1];
+    remove_link(g, slot);
+    if (sound)
+        return g->at[contract(g, a, b)];
+    tally(g, a);
+    tally(g, b);
+    return 0;
+}
+
+static bool is_running(Pair p)
+{
+    return p.low == 1 && p.high == 0;
+}
+
+/* Check 11. */
+static bool traced(const struct run *r, Network g, uint32_t nodes)
+{
+    Pair factors[MOST_NODES];
+    uint64_t paired = g.links;
+    bool connected = reaches(&g, 0, nodes), met[2] = {false, false};
+    for (int i = 0; i < r->count; i++) {
+        if (connected)
+            reduce(&g, paired, factors);
+        if (!connected || g.links == 0 || !is_chosen(r, &g, i))
+            return false;
+        if (choice(r, &g) != first(g.links))
+            met[r->places[i] == 0] = true;
+        if (r->slip == MIXTURE_REFUSED && met[0] && met[1])
+            return false;
+        int slot = slot_of(&g, r->places[i]);
+        int a = g.ends[slot][0], b = g.ends[slot][1];
+        bool sound = is_running(r->pairs[i]);
+        paired = branch(&g, slot, sound);
+        connected = sound || reaches(&g, a, node_bit(b));
+    }
+    return true;
+}
+
+static Figure carry(struct run *r, Network *g, uint64_t paired, int next, uint64_t limit, int depth);
+
+/* The slot that a split takes: of an open split that of its place. */
+static int taken(const struct run *r, const Network *g, int next)
+{
+    if (next < r->count)
+        return r->slip == OPEN_AT_LARGEST ? choice(r, g) : slot_of(g, r->places[next]);
+    if (r->slip == CARRIED_BY_FIRST && r->carried)
+        return first(g->links);
+    return r->slip == ALL_BY_FIRST ? first(g->links) : choice(r, g);
+}
+
+static void leave(struct run *r, int depth, uint32_t place, Pair pair)
+{
+    r->places_left[depth] = r->slip == PLACE_0_WRITTEN ? 0 : place;
+    r->pairs_left[depth] = pair;
+    if (r->left <= depth)
+        r->left = depth + 1;
+}
+
+/* Step 7, or an open split. */
+static Figure split_or_open(struct run *r, Network *g, int next, uint64_t limit, int depth)
+{
+    bool fresh = next >= r->count, known_sound = !fresh && !is_running(r->pairs[next]);
+    int slot = taken(r, g, next), a = g->ends[slot][0], b = g->ends[slot][1];
+    uint32_t place = r->slip == PLAN_PLACE_WRITTEN ? (uint32_t)slot : place_of(g, slot);
+    Pair p = g->values[slot];
+    Network contracted = *g;
+    uint64_t paired = branch(&contracted, slot, true);
+    Figure sound = {0, 0, 0, true}, broken = known(0);
+    limit -= fresh;
+    if (known_sound)
+        sound = (Figure){r->pairs[next].low, r->pairs[next].high, 0, true};
+    else
+        sound = carry(r, &contracted, paired, fresh ? r->count : next + 1, limit, depth + 1);
+    branch(g, slot, false);
+    if (reaches(g, a, node_bit(b)))
+        broken = carry(r, g, 0, known_sound ? next + 1 : r->count, limit - sound.steps, depth + 1);
+    if (!sound.finished)
+        leave(r, depth, place, (Pair){1, 0});
+    else if (!broken.finished)
+        leave(r, depth, place, (Pair){sound.low, sound.high});
+    Figure f = combined(p, sound, broken);
+    f.steps -= !fresh;
+    return f;
+}
+
+static Figure carry(struct run *r, Network *g, uint64_t paired, int next, uint64_t limit, int depth)
+{
+    Pair factors[MOST_NODES];
+    int count = reduce(g, paired, factors);
+    Figure f = {0, S, 0, false};
+    if (g->links == 0)
+        f = known(S);
+    else if (next < r->count || limit != 0)
+        f = split_or_open(r, g, next, limit, depth);
+    while (count-- > 0)
+        f = multiplied(f, factors[count]);
+    return f;
+}
+
+static uint32_t nodes_of(const uint8_t *plan)
+{
+    return UINT32_MAX >> (MOST_NODES - plan[0]);
+}
+
+static void count_links(struct run *r, const Network *g)
+{
+    for (int v = 0; v < MOST_NODES; v++)
+        r->links_at[v] = __builtin_popcountll(g->at[v]);
+}
+
+static Figure worked(struct run *r, Network g, uint32_t nodes, uint64_t limit)
+{
+    count_links(r, &g);
+    return reaches(&g, first(nodes), nodes) ? carry(r, &g, g.links, 0, limit, 0) : known(0);
+}
+
+static void put_answer(uint8_t *answer, int64_t low, int64_t high, uint64_t steps, bool finished)
+{
+    put(answer, low);
+    put(answer + 4, high);
+    put(answer + 8, steps);
+    put(answer + 12, finished);
+}
+
+static uint64_t asked(const uint8_t *plan, size_t plan_len, uint64_t limit, size_t room)
+{
+    if (limit > MOST_STEPS)
+        return 7;
+    return room < 16 ? 9 : proved_check(plan, plan_len);
+}
+
+uint64_t in_c_figure(long slip, const uint8_t *plan, size_t plan_len, uint64_t limit, uint8_t *answer, size_t answer_len)
+{
+    struct run r = {.slip = slip};
+    uint64_t refused = asked(plan, plan_len, limit, answer_len);
+    if (refused != 0)
+        return refused;
+    Figure f = worked(&r, network_of(plan), nodes_of(plan), limit);
+    put_answer(answer, f.low, f.high, f.steps, f.finished);
+    return 0;
+}
+
+static void put_difference(uint8_t *answer, Figure a, Figure b, bool signed_low)
+{
+    int64_t low = (int64_t)a.low - b.high, high = (int64_t)a.high - b.low;
+    put_answer(answer, low < 0 && !signed_low ? 0 : low, high, a.steps + b.steps, a.finished && b.finished);
+}
+
+uint64_t in_c_importance(long slip, const uint8_t *plan, size_t plan_len, uint64_t place, uint64_t limit, uint8_t *answer,
+                         size_t answer_len)
+{
+    struct run r = {.slip = slip};
+    uint64_t refused = asked(plan, plan_len, limit, answer_len);
+    if (refused != 0 || place >= plan[2])
+        return refused != 0 ? refused : 8;
+    Network broken = network_of(plan), sound = broken;
+    uint32_t nodes = nodes_of(plan), left = nodes;
+    if (broken.links & link_bit(place)) {
+        const uint8_t *ends = broken.ends[place];
+        left &= ~node_bit(ends[0] > ends[1] ? ends[0] : ends[1]);
+        branch(&sound, place, true);
+        branch(&broken, place, false);
+        for (uint64_t links = sound.links; links != 0; links = without_first(links))
+            if (sound.ends[first(links)][0] == sound.ends[first(links)][1])
+                remove_link(&sound, first(links));
+        for (int v = 0; v < MOST_NODES; v++)
+            tally(&sound, v);
+    }
+    Figure with = worked(&r, sound, left, limit), without = worked(&r, broken, nodes, limit);
+    put_difference(answer, with, without, false);
+    return 0;
+}
+
+uint64_t in_c_difference(long slip, const uint8_t *plan_a, size_t plan_a_len, const uint8_t *plan_b, size_t plan_b_len,
+                         uint64_t limit, uint8_t *answer, size_t answer_len)
+{
+    struct run r = {.slip = slip};
+    uint64_t refused = asked(plan_a, plan_a_len, limit, answer_len);
+    if (refused != 0)
+        return refused;
+    refused = proved_check(plan_b, plan_b_len);
+    if (refused != 0)
+        return refused + 20;
+    Figure a = worked(&r, network_of(plan_a), nodes_of(plan_a), limit);
+    Figure b = worked(&r, network_of(plan_b), nodes_of(plan_b), limit);
+    put_difference(answer, a, b, true);
+    return 0;
+}
+
+/* Check 10. Reads the open splits. */
+static bool well_formed(struct run *r, const uint8_t *saved, size_t saved_len)
+{
+    if (saved_len < 8)
+        return false;
+    size_t count = saved[0] | saved[1] << 8;
+    int state = saved[2] | saved[3] << 8;
+    if (word(saved + 4) > MOST_STEPS || state > 1 || count > (state == 0 ? MOST_OPEN : 0))
+        return false;
+    if (saved_len != (state == 0 ? 8 + 12 * count : 24))
+        return false;
+    r->count = count;
+    for (size_t i = 0; i < count; i++) {
+        const uint8_t *pair = saved + 8 + 4 * count + 8 * i;
+        Pair p = {word(pair), word(pair + 4)};
+        if (!is_running(p) && (p.low > p.high || p.high > S))
+            return false;
+        r->places[i] = word(saved + 8 + 4 * i);
+        r->pairs[i] = p;
+    }
+    return true;
+}
+
+static void put_work(const struct run *r, uint8_t *work, const uint8_t *answer, uint32_t steps, bool finished)
+{
+    int c = finished ? 0 : r->left;
+    put(work, c | (finished ? 1u << 16 : 0));
+    put(work + 4, steps);
+    if (finished)
+        memcpy(work + 8, answer, 16);
+    for (int i = 0; i < c; i++) {
+        put(work + 8 + 4 * i, r->places_left[i]);
+        put(work + 8 + 4 * c + 8 * i, r->pairs_left[i].low);
+        put(work + 12 + 4 * c + 8 * i, r->pairs_left[i].high);
+    }
+}
+
+/* Whether saved work has an open split that the first link's rule alone takes. */
+static bool has_first_link(const struct run *r, Network g)
+{
+    struct run largest = *r;
+    largest.slip = FIRST_REFUSED;
+    return !traced(&largest, g, 1);
+}
+
+uint64_t in_c_sitting(long slip, const uint8_t *plan, size_t plan_len, uint64_t limit, const uint8_t *saved, size_t saved_len,
+                      uint8_t *answer, size_t answer_len, uint8_t *work, size_t work_len)
+{
+    struct run r = {.slip = slip};
+    uint64_t refused = asked(plan, plan_len, limit, work_len < 776 ? 0 : answer_len);
+    if (refused != 0)
+        return refused;
+    if (!well_formed(&r, saved, saved_len))
+        return 10;
+    Network g = network_of(plan);
+    count_links(&r, &g);
+    if (!traced(&r, g, nodes_of(plan)))
+        return 11;
+    if (saved[2] == 1) {
+        memcpy(answer, saved + 8, 16);
+        memmove(work, saved, 24);
+        return 0;
+    }
+    uint64_t before = word(saved + 4), most = MOST_STEPS - before;
+    bool old = has_first_link(&r, g);
+    r.carried = r.count > 0;
+    if (slip == OLD_STARTS_OVER && old)
+        r.count = 0;
+    if (slip == OLD_BY_FIRST && old)
+        r.slip = ALL_BY_FIRST;
+    Figure f = worked(&r, g, nodes_of(plan), limit < most ? limit : most);
+    uint64_t steps = slip == STEPS_FORGOTTEN || (slip == OLD_STEPS_FORGOTTEN && old) ? f.steps : before + f.steps;
+    put_answer(answer, f.low, f.high, steps, f.finished);
+    put_work(&r, work, answer, steps, f.finished);
+    return 0;
+}

@@ -1,0 +1,42 @@
+/* The calls by the rule in C (in_c.c), and the slips of the choice that they may have. */
+
+#ifndef IN_C_H
+#define IN_C_H
+
+#include <stddef.h>
+#include <stdint.h>
+
+enum {
+    NO_SLIP,
+    PRODUCT,             /* the largest product of the link counts */
+    LATEST,              /* the latest of equal sums */
+    PLAN_COUNTS,         /* the counts of the plan, not of the network left */
+    LARGER_END,          /* the largest count of one end */
+    SMALLER_END,         /* the largest count of the end with fewer links */
+    SMALLEST_SUM,        /* the smallest sum */
+    ALL_BY_FIRST,        /* the first link, always */
+    CARRIED_BY_FIRST,    /* the first link, where splits are open */
+    OLD_BY_FIRST,        /* the first link, where one is open that the first link's rule took */
+    FIRST_REFUSED,       /* 11 refuses the first link */
+    INNER_FIRST_REFUSED, /* 11 refuses the first link from the fourth open split on */
+    MIXTURE_REFUSED,     /* 11 refuses a mixture */
+    LARGEST_REFUSED,     /* 11 refuses the largest sum */
+    ANY_PLACE,           /* 11 accepts any link's place */
+    ANY_INNER_PLACE,     /* 11 accepts any link's place from the fourth open split on */
+    OPEN_AT_LARGEST,     /* open splits are put at the link of the largest sum */
+    OLD_STARTS_OVER,     /* work of the first link's rule starts over, its steps kept */
+    STEPS_FORGOTTEN,     /* the steps are those of this sitting */
+    OLD_STEPS_FORGOTTEN, /* the same for work of the first link's rule */
+    PLACE_0_WRITTEN,     /* place 0 is written for every open split */
+    PLAN_PLACE_WRITTEN,  /* the place in the plan is written */
+};
+
+uint64_t in_c_figure(long slip, const uint8_t *plan, size_t plan_len, uint64_t limit, uint8_t *answer, size_t answer_len);
+uint64_t in_c_importance(long slip, const uint8_t *plan, size_t plan_len, uint64_t place, uint64_t limit, uint8_t *answer,
+                         size_t answer_len);
+uint64_t in_c_difference(long slip, const uint8_t *plan_a, size_t plan_a_len, const uint8_t *plan_b, size_t plan_b_len,
+                         uint64_t limit, uint8_t *answer, size_t answer_len);
+uint64_t in_c_sitting(long slip, const uint8_t *plan, size_t plan_len, uint64_t limit, const uint8_t *saved, size_t saved_len,
+                      uint8_t *answer, size_t answer_len, uint8_t *work, size_t work_len);
+
+#endif
