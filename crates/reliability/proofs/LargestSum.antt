@@ -1,7 +1,7 @@
 -- The chosen link is one of the links, its sum is the largest, and every earlier one's is smaller.
 use Prim.Native.Nat.{ℕ, zero, suc, _≤_, _<_}
 use mathlib.Core.Path.{_≡_, refl, ap}
-use mathlib.Core.List.{List, [], _∷_, List·Memᴰ, List·Memᴰ·head, List·Memᴰ·tail}
+use mathlib.Core.List.{List, [], _∷_, map, List·Memᴰ, List·Memᴰ·head, List·Memᴰ·tail}
 use mathlib.Core.Bool.{Bool, true, false}
 use mathlib.Core.Option.{Option, some, none, Option·map}
 use native.Mathlib.Nat.{not-suc-le-zero, le-of-suc-le-suc}
@@ -12,9 +12,33 @@ use lib.ListN.{length}
 use borrow.Author.Tests.{eqb-true, eqb-false}
 use Rattle.reliability.specs.declared.Link.{Link}
 use Rattle.reliability.specs.Networks.{Network, linkAt}
-use Rattle.reliability.specs.Rule.{firstAt, degreeSum, largest, largestSum}
+use Rattle.reliability.specs.Rule.{firstAt, places, degree, degreeSum, largest, largestSum, chosen}
 use Rattle.reliability.proofs.Lists.{getD-mem}
+use Rattle.reliability.proofs.Pieces.{link}
 use Rattle.reliability.proofs.Searches.{Answers, nth, Holds, Fails, first-at}
+
+-- ---- links and the place of the chosen one: one proof computes them all from the definition
+
+pub record Row : Type 0 where
+  pub links : List Link
+  pub place : ℕ
+
+pub row : List Link → ℕ → Row
+row es i = record { links = es; place = i }
+
+pub rows : List Row
+rows =
+    row (link 0 1 0 ∷ link 1 2 0 ∷ link 0 2 0 ∷ []) 0  -- 4, 4, 4: of equal sums the earliest
+    ∷ row (link 0 1 0 ∷ link 1 2 0 ∷ link 2 3 0 ∷ link 3 4 0 ∷ []) 1  -- 3, 4, 4, 3
+    ∷ row (link 0 1 0 ∷ link 0 2 0 ∷ link 0 3 0 ∷ link 4 5 0 ∷ link 5 6 0 ∷ link 4 6 0 ∷ []) 0  -- 3 + 1 is no less than 2 + 2
+    ∷ row (link 4 5 0 ∷ link 5 6 0 ∷ link 4 6 0 ∷ link 0 1 0 ∷ link 0 2 0 ∷ link 0 3 0 ∷ link 0 7 0 ∷ []) 3  -- 4 + 1 is more than 2 + 2
+    ∷ []
+
+pub choices : map (λ (r : Row). chosen (record { nodes = []; links = r .links })) rows ≡ map (λ (r : Row). r .place) rows
+unfolding rows row link largestSum largest degree places firstAt
+choices = refl
+
+-- ---- what is chosen
 
 -- no earlier place passes the test
 module _ (p : Link → Bool) where
