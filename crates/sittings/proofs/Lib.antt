@@ -1,3 +1,4 @@
+pub mod Ahead
 pub mod Sittings
 pub mod Own
 pub mod Asides

@@ -471,7 +471,7 @@ run-split-on-requires : (t : ℕ) → run-lts.Need-split-on-requires (claims t) 
 run-split-on-requires t c κs =
     let told = c .before .before .before .before in
     let fits = fitting t told (Splitting _) (c .before .before .c .given .1) in
-    (fits .placed .below, room-for t told _ fits)
+    (fits .placed .below, let b = room-for t told _ fits in omega arith)
 
 module _ (t : ℕ) (k : Split-known t) where
   abbrev told : Told t
@@ -783,13 +783,15 @@ run-take-out-requires : (t : ℕ) → run-lts.Need-take-out-requires (claims t) 
 run-take-out-requires t c κs =
     let m = c .before .before .before in
     let s = state t (at t m) in
-    (workable t (told t s) .sized .at-length, omega (arith, chosen-ends t m), used t s .below)
+    let b = used t s .below in
+    (workable t (told t s) .sized .at-length, omega (arith, chosen-ends t m), omega arith)
 
 run-take-out-requires-2 : (t : ℕ) → run-lts.Need-take-out-requires-2 (claims t) (run-at t) run.Post
 run-take-out-requires-2 t c κs =
     let m = c .before .before .before .before .before in
     let s = state t (at t m) in
-    (c .before .take-out .ensures .size ∙ workable t (told t s) .sized .at-length, omega (arith, chosen-ends t m), used t s .below)
+    let b = used t s .below in
+    (c .before .take-out .ensures .size ∙ workable t (told t s) .sized .at-length, omega (arith, chosen-ends t m), omega arith)
 
 abbrev Taken : ℕ → Type 0
 Taken t = run-lts.After-take-out2 (claims t) (run-at t) run.Post
