@@ -290,7 +290,7 @@ static uint64_t other_sitting(struct call *c, const long *s)
     case 56: /* 11 is tested before 10 */
         return only_11(c, copy) ? 11 : proved(c);
     case 57: /* the place of the second open split is not tested */
-        if (count > 1)
+        if (count > 1 && only_11(c, copy))
             put(copy + 12, 0);
         return from(c, copy, c->b_len, 0);
     case 60: /* a state of 2 is begun */
@@ -495,7 +495,8 @@ static uint64_t with_the_last_place(struct call *c, size_t most)
     if (!begun(c) || c->b[0] <= most)
         return proved(c);
     memcpy(copy, c->b, c->b_len);
-    put(copy + 4 + 4 * copy[0], 0);
+    if (only_11(c, copy))
+        put(copy + 4 + 4 * copy[0], 0);
     return from(c, copy, c->b_len, 0);
 }
 

@@ -161,6 +161,16 @@ fn saved(choice: Choice, plan: &[u8], limit: u64) -> Vec<u8> {
     first.outcome_by(choice, 16, WORK).unwrap().work
 }
 
+/// Sizes of both buffers, most of them large enough.
+fn rooms(random: &mut Random) -> [usize; 2] {
+    match random.below(6) {
+        0 => [random.below(17), WORK],
+        1 => [16, random.below(WORK + 1)],
+        2 => [16 + random.below(20), WORK + random.below(40)],
+        _ => [16, WORK],
+    }
+}
+
 /// Work carried on, and damaged in every byte, cut and lengthened; and damaged plans.
 #[test]
 fn sittings_under_a_memory_checker() {
@@ -178,12 +188,7 @@ fn sittings_under_a_memory_checker() {
             let damaged_work = damaged(&mut random, &saved);
             let mut sat = |plan: &[u8], saved: &[u8]| {
                 let limit = random.up_to(12);
-                let rooms = match random.below(6) {
-                    0 => [random.below(17), WORK],
-                    1 => [16, random.below(WORK + 1)],
-                    2 => [16 + random.below(20), WORK + random.below(40)],
-                    _ => [16, WORK],
-                };
+                let rooms = rooms(&mut random);
                 trials.push(trial_of_sitting(&Sitting { plan, limit, saved }, rooms));
             };
             sat(&plan, &saved);

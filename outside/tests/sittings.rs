@@ -384,60 +384,50 @@ fn nothing_set_aside_without_a_step() {
     }
 }
 
+/// The pair of a plan that is finished within 100 steps, by the library's figure.
+fn known(links: &[(u8, u8, u32)]) -> [u32; 2] {
+    let bytes = in_one_run(&Plan::new(4, links).bytes(), 100);
+    let answer = answer_of(bytes[..].try_into().unwrap());
+    assert!(answer.finished);
+    [answer.low as u32, answer.high as u32]
+}
+
+/// Begun work with these places, its pairs the first of these.
+fn begun_at(places: &[u32], pairs: &[[u32; 2]], steps: u32) -> Vec<u8> {
+    let pairs = pairs[..places.len()].to_vec();
+    let places = places.to_vec();
+    Begun {
+        places,
+        pairs,
+        steps,
+    }
+    .bytes()
+}
+
 /// The bytes of saved work, written out. Five nodes, each two joined by a half, need five splits: the first, one of its sound
 /// branch and three of its broken one. In the broken branch nodes 2, 3 and 4 have four links each, and their first link is the
 /// fifth; with it broken too, node 4 alone has four, and its first link is the fifth.
 #[test]
 fn the_bytes_of_five_nodes() {
     let file = Plan::complete(5, S / 2).bytes();
-    let begun = |places: &[u32], pairs: &[[u32; 2]], steps| {
-        let (places, pairs) = (places.to_vec(), pairs.to_vec());
-        Begun {
-            places,
-            pairs,
-            steps,
-        }
-        .bytes()
-    };
     let work = |limit| first(&file, limit).work;
     assert_eq!(work(0), [0; 8]);
     let one = [1, 0, 0, 0, 1, 0, 0, 0, 0, 0, 0, 0, 1, 0, 0, 0, 0, 0, 0, 0];
     assert_eq!(work(1), one);
-    // The sound branch: its node 0 was two, so the links to it are two halves each.
-    let halves = [[1, 2], [1, 3], [2, 3]];
-    let mut sound = Plan::alike(4, S / 2, &halves);
-    sound.links.splice(
-        0..0,
-        Plan::alike(4, S / 4 * 3, &[[0, 1], [0, 2], [0, 3]]).links,
-    );
-    let pair = |plan: &Plan| {
-        let bytes = in_one_run(&plan.bytes(), 100);
-        let answer = answer_of(bytes[..].try_into().unwrap());
-        assert!(answer.finished);
-        [answer.low as u32, answer.high as u32]
-    };
-    let known = pair(&sound);
-    assert_eq!(work(2), begun(&[0], &[known], 2));
-    // Where nodes 2 and 3 are one, no split is left; the same where nodes 0 and 4 are.
-    let [two, three] = [S / 4 * 3, S / 2];
-    let merged = [
-        (0, 2, two),
-        (1, 2, two),
-        (0, 3, three),
-        (1, 3, three),
-        (2, 3, two),
+    // What is left where the split link is sound: a node that was two has links of two halves each.
+    let (half, two) = (S / 2, S / 4 * 3);
+    let to_0 = [(0, 1, two), (0, 2, two), (0, 3, two)];
+    let others = [(1, 2, half), (1, 3, half), (2, 3, half)];
+    let to_2 = [(0, 2, two), (1, 2, two), (2, 3, two)];
+    let to_0_again = [(0, 2, two), (0, 3, two), (0, 1, half)];
+    let pairs = [
+        known(&[to_0, others].concat()),
+        known(&[&to_2[..], &[(0, 3, half), (1, 3, half)]].concat()),
+        known(&[&to_0_again[..], &[(1, 2, half), (1, 3, half)]].concat()),
     ];
-    let inner = pair(&Plan::new(4, &merged));
-    assert_eq!(work(3), begun(&[0, 4], &[known, inner], 3));
-    let merged = [
-        (0, 2, two),
-        (1, 2, three),
-        (0, 3, two),
-        (1, 3, three),
-        (0, 1, three),
-    ];
-    let innermost = pair(&Plan::new(4, &merged));
-    assert_eq!(work(4), begun(&[0, 4, 4], &[known, inner, innermost], 4));
+    assert_eq!(work(2), begun_at(&[0], &pairs, 2));
+    assert_eq!(work(3), begun_at(&[0, 4], &pairs, 3));
+    assert_eq!(work(4), begun_at(&[0, 4, 4], &pairs, 4));
     let answered = in_one_run(&file, 5);
     assert_eq!(work(5), [vec![0, 0, 1, 0, 5, 0, 0, 0], answered].concat());
 }
