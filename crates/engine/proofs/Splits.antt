@@ -97,7 +97,7 @@ fresh-takes t i e s b stored l p =
     let there : p .work (p .chosen) ≡ u = ap (p .work) (sym (p .place)) ∙ p .at in
     let back = sym (ap (λ (x : Tree). taken i e x b) (resumed-none s)) in (
       ap (λ (x : Tree). run x (suc l)) whole ∙ ap (λ (x : Tree). stepped (run x l)) there
-      ∙ (λ j. record { low = run u l .low; high = run u l .high; steps = sym one j; finished = run u l .finished }) ∙ ap (λ (x : Tree). more 1 (run x l)) back,
+          ∙ (λ j. record { low = run u l .low; high = run u l .high; steps = sym one j; finished = run u l .finished }) ∙ ap (λ (x : Tree). more 1 (run x l)) back,
       ap (λ (x : Tree). aside x (suc l)) whole ∙ taken-now (p .chosen) (p .work) l ∙ ap (λ (x : Tree). aside x l) (there ∙ back),
     )
 

@@ -516,7 +516,7 @@ module _ (t : ℕ) (k : Split-known t) where
       by-eqb (λ b. indexOf n place ≡ cond b (indexOf n first) j) (given .args .left) 0
       (λ none. on ∙ ap (indexOf n) (split-fresh (n .alive) first row (given .args .k) (given .args .left) none))
       (λ some. on ∙ split-placed (n .alive) first row (given .args .k) (given .args .left) (omega arith)
-          (⊎-elim (λ z. inr (eqb-true j 0 z)) (λ z. inl (eqb-true j (indexOf n first) z)) (or-true (eqb j 0) (eqb j (indexOf n first)) (open-place split-is row (given .args .k) (given .args .left) (carries t told) some))))
+      (⊎-elim (λ z. inr (eqb-true j 0 z)) (λ z. inl (eqb-true j (indexOf n first) z)) (or-true (eqb j 0) (eqb j (indexOf n first)) (open-place split-is row (given .args .k) (given .args .left) (carries t told) some))))
 
   taking : Taking (tree (networkOf n)) (indexOf n place) link (tree sound) (tree broken) (getD (given .args .row .now) (3 * given .args .k) 0) (given .args .left)
   taking = record { chosen = indexOf n first; work = works n (workable t told); is = split-is; at = split-work n (workable t told) first chosen-fits place used; place = stands }
