@@ -1,7 +1,7 @@
 -- What is asked of a rule, whatever its networks are, so that its figures enclose the exact sum.
-use Prim.Native.Nat.{ℕ, suc, _+_, _-_, _*_, _^_, _≤_, _<_, min}
-use mathlib.Core.Path.{_≡_}
-use mathlib.Core.List.{List, [], map, List·Memᴰ}
+use Prim.Native.Nat.{ℕ, zero, suc, _+_, _-_, _*_, _^_, _≤_, _<_, min}
+use mathlib.Core.Path.{_≡_, refl}
+use mathlib.Core.List.{List, [], _∷_, _++_, map, List·Memᴰ}
 use mathlib.Core.Bool.{Bool, true, false, cond}
 use mathlib.Core.Logic.{_⊎_}
 use native.Mathlib.Omega.{arith}
@@ -9,9 +9,9 @@ use lib.ListN.{length}
 use Rattle.rounding.specs.Rounding.{S}
 use Rattle.rounding.specs.declared.Direction.{Direction}
 use Rattle.reliability.specs.declared.Link.{Link}
-use Rattle.reliability.specs.Networks.{value}
+use Rattle.reliability.specs.Networks.{value, linked}
 use Rattle.reliability.specs.Exact.{weighted, sum}
-use Rattle.reliability.specs.Rule.{Remainder, settled, rest, scaled, branches, Tree, fork, grown, isSplit, treeOf}
+use Rattle.reliability.specs.Rule.{Remainder, settled, rest, scaled, branches, Tree, ready, multiplied, fork, taken, grown, isSplit, treeOf}
 use Rattle.reliability.proofs.Within.{Within}
 
 -- what is left has the property P, and its factors and values are at most S
@@ -82,6 +82,23 @@ module _ {N : Type 0} (Valid : N → Type 0) (μ : View N) where
 -- a choice of a link, where there is one
 abbrev pub Choice : {N : Type 0} → View N → (N → ℕ) → Type 0
 Choice {N} μ choose = (g : N) → Place μ g (choose g)
+
+-- the place chosen for each split, and that at which it is taken, sound branch first
+pub splitPlaces : Tree → List ℕ
+splitPlaces (ready k) = []
+splitPlaces (multiplied k t) = splitPlaces t
+splitPlaces (fork i work) = i ∷ splitPlaces (work i)
+splitPlaces (taken i e s b) = i ∷ (splitPlaces s ++ splitPlaces b)
+
+-- a small rule: networks are numbers, and a split leaves one less in both branches
+pub lessened : ℕ → ℕ → Remainder ℕ
+lessened i zero = settled S
+lessened i (suc n) = branches (linked 0 1 (λ d. S)) n n
+
+-- each split is at the place that is chosen for what is then left: computed from the definition
+pub places-chosen : splitPlaces (treeOf lessened (λ n. n - 1) 2 2) ≡ 1 ∷ 1 ∷ 0 ∷ 0 ∷ 0 ∷ 0 ∷ []
+unfolding splitPlaces lessened treeOf grown
+places-chosen = refl
 
 -- what holds of the work at each place, and of a split that is still to take if it holds of the work once it is taken, holds of the tree
 module _ {N : Type 0} (Valid : N → Type 0) (μ : View N) (step : ℕ → N → Remainder N) (choose : N → ℕ) (choice : Choice μ choose) where

@@ -315,7 +315,7 @@ uniform g = go (uniform-next g)
   where
     go : UniformStep (λ i. nextAt i g) → Uniform (λ i. stepAt i g)
     go (inl u) = inl (leaves g (u .0), λ i. ap (leaves g) (u .1 i))
-    go (inr u) = inr (λ i. (linkAt g i, contracted (linkAt g i) (deleted i g), deleted i g, ap (leaves g) (u i)))
+    go (inr u) = inr (λ i. (_, _, _, ap (leaves g) (u i)))
 
 -- where step 7 fits, it fits at every place
 pub split-anywhere : (g : Network) (i j : ℕ) → nextAt i g ≡ Split j → (k : ℕ) → nextAt k g ≡ Split k

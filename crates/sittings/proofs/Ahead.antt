@@ -115,6 +115,7 @@ rows-of-deep =
     ∷ row [] (2 ∷ []) 1 125000000 625000000 3 false (0 ∷ 250000000 ∷ 250000000 ∷ [])
     ∷ row [] (1 ∷ 1 ∷ []) 2 375000000 half 4 false (0 ∷ 250000000 ∷ 250000000 ∷ 3 ∷ S ∷ S ∷ [])
     ∷ row [] (1 ∷ 1 ∷ 1 ∷ 1 ∷ []) 1 437500000 437500000 5 true []
+    ∷ row [] (5 ∷ []) 1 437500000 437500000 5 true []  -- complete work is not worked again
     ∷ []
 
 pub sittings-of-deep : every (right deep deep) rows-of-deep ≡ true

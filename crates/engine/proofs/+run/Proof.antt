@@ -997,11 +997,12 @@ run-closed-requires-2 t c κs =
     let s = state t q in
     let e = chosen-within t m in
     let f = sound-figure t m in
-    let h = worked-bounded (broken-bounds t q) (broken-worked t w) in (
+    let h = worked-bounded (broken-bounds t q) (broken-worked t w) in
+    let o = broken-open t q (limit t q - own t q - m .if3 .sound .figure .steps) in (
       (row-room t s, worked-size (sound-size t m) (broken-worked t w)),
       (
-        (e .0, e .1, f .low, f .high, h .low, h .high),
-        (omega (arith, f .steps, h .steps, own-within t m, given t s .pre .1 .0 .1), sound-count t m, omega (arith, broken-worked t w .count, broken-open t q (limit t q - own t q - m .if3 .sound .figure .steps))),
+        (e .0, e .1, omega (arith, f .low, h .low), omega (arith, f .high, h .high), omega (arith, f .low, h .low), omega (arith, f .high, h .high)),
+        (omega (arith, f .steps, h .steps, own-within t m, given t s .pre .1 .0 .1), omega (arith, sound-count t m, broken-worked t w .count, o), omega (arith, sound-count t m, broken-worked t w .count, o)),
       ),
     )
 
