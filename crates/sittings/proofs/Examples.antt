@@ -5,7 +5,7 @@ use mathlib.Core.Bool.{true, false}
 use Rattle.rounding.specs.Rounding.{S, quotient, product, parallel, either, series, factor, split}
 use Rattle.reliability.specs.Networks.{merge, label, every, connected, lastOfEach}
 use Rattle.reliability.specs.Rule.{firstAt, places, firstPair, lowest, nextAt, degree, largest, largestSum, firstLink, deleteAt, without, leaves, grown, treeOf, treeBy, tree, run}
-use Rattle.sittings.specs.Sittings.{opens, resumed, traced, begun, sitting, savedAfter}
+use Rattle.sittings.specs.Sittings.{opens, resumed, traced, begun, nothing, sitting, savedAfter, byFirstLink, byLargestSum, savedBy}
 use Rattle.sittings.specs.Entries.{entries, entered, opensIn}
 use Rattle.sittings.proofs.Ahead.{half, link, five, only, deep, Row, same, alike, saves, right, row}
 
@@ -33,6 +33,11 @@ rows-of-five =
 pub sittings-of-five : every (right (treeBy firstLink five) (tree five)) rows-of-five ≡ true
 unfolding right same alike saves rows-of-five row link half five treeOf grown run largestSum largest degree leaves nextAt without deleteAt lowest firstPair places firstAt lastOfEach connected every label merge quotient product parallel either series factor split opens resumed traced sitting savedAfter entries entered opensIn
 sittings-of-five = refl
+
+-- two sittings by the first link, and one by the rule
+pub by-either : saves (tree five) (0 ∷ 808593749 ∷ 808593751 ∷ 6 ∷ 703124998 ∷ 703125002 ∷ []) (savedBy five nothing ((byFirstLink, 1) ∷ (byFirstLink, 1) ∷ (byLargestSum, 1) ∷ [])) ≡ true
+unfolding same alike saves link half five treeOf grown run largestSum largest degree leaves nextAt without deleteAt lowest firstPair places firstAt lastOfEach connected every label merge quotient product parallel either series factor split opens resumed traced sitting savedBy entries entered opensIn
+by-either = refl
 
 -- the millionth step is the last
 pub a-million : sitting deep (begun [] 999999) 5 .answer .steps ≡ 1000000
