@@ -91,13 +91,13 @@ splitPlaces (fork i work) = i ∷ splitPlaces (work i)
 splitPlaces (taken i e s b) = i ∷ (splitPlaces s ++ splitPlaces b)
 
 -- a small rule: networks are numbers, and a split leaves one less in both branches
-pub lessened : ℕ → ℕ → Remainder ℕ
-lessened i zero = settled S
-lessened i (suc n) = branches (linked 0 1 (λ d. S)) n n
+pub oneLess : ℕ → ℕ → Remainder ℕ
+oneLess i zero = settled S
+oneLess i (suc n) = branches (linked 0 1 (λ d. S)) n n
 
 -- each split is at the place that is chosen for what is then left: computed from the definition
-pub places-chosen : splitPlaces (treeOf lessened (λ n. n - 1) 2 2) ≡ 1 ∷ 1 ∷ 0 ∷ 0 ∷ 0 ∷ 0 ∷ []
-unfolding splitPlaces lessened treeOf grown
+pub places-chosen : splitPlaces (treeOf oneLess (λ n. n - 1) 2 2) ≡ 1 ∷ 1 ∷ 0 ∷ 0 ∷ 0 ∷ 0 ∷ []
+unfolding splitPlaces oneLess treeOf grown
 places-chosen = refl
 
 -- what holds of the work at each place, and of a split that is still to take if it holds of the work once it is taken, holds of the tree
