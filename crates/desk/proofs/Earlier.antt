@@ -12,19 +12,19 @@ use Rattle.reliability.specs.Exact.{exact}
 use Rattle.reliability.specs.Rule.{splits, tree}
 use Rattle.plan.specs.Plans.{WellFormed, sizeN, sizeM, planOf}
 use Rattle.plan.proofs.Accepted.{plan-equal, plan-links, plan-nodes}
-use Rattle.answers.specs.Answers.{withFigure, lowIn, highIn, stepsIn, finishedIn, Holds}
+use Rattle.answers.specs.Answers.{lowIn, highIn, stepsIn, finishedIn, Holds}
 use Rattle.answers.proofs.Laws.{written}
 use Rattle.sittings.specs.Sittings.{Open, resumed, Saved, begun, most, sitting}
 use Rattle.sittings.proofs.GoodSaved.{GoodSaved, sitting-few, sitting-range, sitting-low-high, sitting-enclosure-of-lows, sitting-width-of-equal, sitting-nesting}
 use Rattle.sittings.proofs.Totals as totals
 use Rattle.saved.specs.Format.{savedBytes}
 use Rattle.sitting_desk.specs.Outcome.{SittingOutcome}
-use Rattle.sitting_desk.specs.Chains.{Lent, Allowed, sat}
-use Rattle.sitting_desk.proofs.Demands.{Earlier, good, earlier-carried}
+use Rattle.sitting_desk.specs.Chains.{Lent, Allowed, sat, Earlier}
+use Rattle.sitting_desk.proofs.Demands.{good, earlier-carried}
 use Rattle.desk.specs.Answers.{Marked, LiesWithin}
 use Rattle.desk.proofs.Answers.{valid-of, marked, mark-true}
 
-module _ (plan : List ℕ) (well : WellFormed plan) (s : Saved) (e : Earlier plan well s) where
+module _ (plan : List ℕ) (well : WellFormed plan) (s : Saved) (e : Earlier plan s) where
   abbrev g : Network
   g = planOf plan
 

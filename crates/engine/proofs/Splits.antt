@@ -14,11 +14,11 @@ use Rattle.rounding.specs.declared.Direction.{Direction}
 use Rattle.rounding.specs.declared.Direction.the-variants.{Down, Up}
 use Rattle.reliability.specs.declared.Link.{Link}
 use Rattle.reliability.specs.declared.Figure.{Figure}
-use Rattle.reliability.specs.Rule.{Tree, ready, multiplied, fork, taken, bounded, times, stepped, more, mixed, unfinished, run, splits}
+use Rattle.reliability.specs.Rule.{Tree, ready, multiplied, fork, taken, bounded, times, stepped, more, mixed, unfinished, run}
 use Rattle.reliability.proofs.Runs.{Ranged, range, steps}
 use Rattle.sittings.specs.declared.Carried.{Carried}
-use Rattle.sittings.specs.Sittings.{Open, running, known, placeOf, opens, aside, resumed, traced}
-use Rattle.sittings.specs.Entries.{pair, entered, openAt, opensIn, entries, ownEntry, ownCount, Known, InRange}
+use Rattle.sittings.specs.Sittings.{Open, opens, aside, resumed, traced}
+use Rattle.sittings.specs.Entries.{openAt, opensIn, entries, ownEntry, ownCount, Known, InRange}
 use Rattle.sittings.proofs.Sittings.{resumed-none, resumed-multiplied, more-zero}
 use Rattle.sittings.proofs.Opened.{knownPair, openBy, open-is, fork-open, taken-open}
 use Rattle.sittings.proofs.Asides.{Fresh, taken-now, broken-none, own-count, own-written}

@@ -19,7 +19,7 @@ use Rattle.reliability.specs.declared.Step.{Step}
 use Rattle.reliability.specs.declared.Step.the-variants.{OneNode, Disconnected, Loop, Parallel, End, Series, Split}
 use Rattle.reliability.specs.Networks.{Network, Valid, value, linkAt}
 use Rattle.reliability.specs.Exact.{weighted}
-use Rattle.reliability.specs.Rule.{without, nextAt, leaves, stepAt, Remainder, settled, rest, scaled, branches, Tree, ready, fork, grown, treeOf, bounded, side, times, mixed, stepped, blend, unfinished, run, budget}
+use Rattle.reliability.specs.Rule.{without, nextAt, leaves, stepAt, Remainder, settled, rest, scaled, branches, Tree, ready, fork, grown, treeOf, bounded, side, times, mixed, stepped, unfinished, run, budget}
 use Rattle.reliability.proofs.States.{sum-total}
 use Rattle.reliability.proofs.Within.{Within, equal, rounded, weaken, trans, plus, by, same}
 use Rattle.reliability.proofs.Lawful.{Leaves, View, exactly, Place, Reduces, Fewer, Sized, Lawful, Choice, of-tree}
@@ -97,7 +97,7 @@ module _ {N : Type 0} (μ : View N) (d : Direction) where
 
     at-branches : (e : Link) (sound broken : N) (s t : Figure) → value d e ≤ S
         → (length (μ .nodes sound) ≤ length (μ .nodes g)) × (length (μ .nodes broken) ≤ length (μ .nodes g)) → Reduces μ d g (branches e sound broken)
-        → Figured m s sound → Figured m t broken → Figured (suc m) (blend e s t) g
+        → Figured m s sound → Figured m t broken → Figured (suc m) (mixed e s t) g
     at-branches e sound broken s t pe n r hs hb =
         let done = s .finished && t .finished in
         let p = value d e in
@@ -109,7 +109,7 @@ module _ {N : Type 0} (μ : View N) (d : Direction) where
         let brokenly = weaken d done (mul-le-mul-left (S - p) (mul-le-mul-right P (nodes (n .1)))) (λ both. and-eq-true-iff (s .finished) (t .finished) .0 both .1) (by d (S - p) hb) in
         weaken d done
         (le-trans (omega (arith, portions p (c * P) pe, mul-comm P S)) (spend m c (budget (suc m) (length (μ .nodes g))) 1 (omega arith))) (λ t. t)
-        (same d (reverse P (split d p x y) S ∙ sym (scale m (split d p x y)) ∙ ap (λ y. y * S ^ suc m) (sym (side-bounded d (λ c. split c (value c e) (side c s) (side c t)) (suc (s .steps + t .steps)) done)))
+        (same d (reverse P (split d p x y) S ∙ sym (scale m (split d p x y)) ∙ ap (λ y. y * S ^ suc m) (sym (side-bounded d (λ c. split c (value c e) (side c s) (side c t)) (s .steps + t .steps) done)))
         (ap (λ k. S * k) (sym r))
         (trans d first (same d (gather p x (S - p) y P) (gather′ p (exactly μ d sound) (S - p) (exactly μ d broken)) (plus d soundly brokenly))))
       where
@@ -121,7 +121,7 @@ module _ {N : Type 0} (μ : View N) (d : Direction) where
   Says m g (settled k) = Figured (suc m) (bounded (λ c. k) 0 true) g
   Says m g (rest h) = (f : Figure) → Figured m f h → Figured (suc m) f g
   Says m g (scaled k h) = (f : Figure) → Figured m f h → Figured (suc m) (times k f) g
-  Says m g (branches e sound broken) = (s t : Figure) → Figured m s sound → Figured m t broken → Figured (suc m) (blend e s t) g
+  Says m g (branches e sound broken) = (s t : Figure) → Figured m s sound → Figured m t broken → Figured (suc m) (mixed e s t) g
 
 -- a rule whose steps bear on the exact sum as their figures say
 module _ {N : Type 0} (Valid : N → Type 0) (μ : View N) (step : ℕ → N → Remainder N) (lawful : Lawful Valid μ step) where
@@ -143,10 +143,6 @@ module _ {N : Type 0} (Valid : N → Type 0) (μ : View N) (step : ℕ → N →
       le-trans (sum-total (μ .terminals g) (map (weighted d) (μ .links g)) [])
       (le-of-eq (total-is d (μ .links g) (lawful .values g (h .valid) .range d) ∙ ap (λ n. S ^ n) (h .size)))
 
-  pub uncounted : (d : Direction) (m : ℕ) (f : Figure) (g : N) → Figured μ d m (stepped f) g → Figured μ d m f g
-  uncounted Down m f g h = h
-  uncounted Up m f g h = h
-
   pub counted : (d : Direction) (m : ℕ) (f : Figure) (g : N) → Figured μ d m f g → Figured μ d m (stepped f) g
   counted Down m f g h = h
   counted Up m f g h = h
@@ -160,7 +156,7 @@ module _ {N : Type 0} (Valid : N → Type 0) (μ : View N) (step : ℕ → N →
   grown-encloses d m g grow each i (branches e x y) q say l =
       let s = run (grow x) l in
       let t = run (grow y) (l - s .steps) in
-      uncounted d (suc m) (mixed e s t) g (say s t (each x (q .0) l) (each y (q .1) (l - s .steps)))
+      say s t (each x (q .0) l) (each y (q .1) (l - s .steps))
 
   -- a split that is still to take encloses what it encloses once it is taken
   fork-encloses : (d : Direction) (m : ℕ) (g : N) → Sized Valid μ (suc m) g → (i : ℕ) (work : ℕ → Tree) → ((l : ℕ) → Figured μ d (suc m) (run (work i) l) g)

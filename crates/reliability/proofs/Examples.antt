@@ -12,7 +12,7 @@ use Rattle.reliability.specs.declared.Figure.{Figure}
 use Rattle.reliability.specs.Networks.{Network, merge, label, every, connected, lastOfEach}
 use Rattle.reliability.specs.Exact.{sum, exact}
 use Rattle.reliability.proofs.Pieces.{link}
-use Rattle.reliability.specs.Rule.{firstAt, places, firstPair, lowest, nextAt, degree, largest, largestSum, deleteAt, without, leaves, stepAt, grown, treeOf, run, firstLink, chosen}
+use Rattle.reliability.specs.Rule.{firstAt, places, firstPair, lowest, nextAt, degree, largest, largestSum, deleteAt, without, leaves, grown, treeOf, treeBy, run, firstLink, chosen}
 
 -- a row: nodes, links, limit; low, high, steps, finished; the exact figure in units
 pub record Row : Type 0 where
@@ -34,7 +34,7 @@ same false false = true
 pub right : (Network → ℕ) → Row → Bool
 right choose r =
     let g : Network = record { nodes = r .nodes; links = r .links } in
-    let f : Figure = run (treeOf stepAt choose (length (r .links)) g) (r .limit) in
+    let f : Figure = run (treeBy choose g) (r .limit) in
     eqb (f .low) (r .low) && eqb (f .high) (r .high) && eqb (f .steps) (r .steps) && same (f .finished) (r .finished)
     && eqb (S * exact Down g) (r .exactly * S ^ length (r .links))
 
@@ -74,20 +74,20 @@ rows =
     ∷ []
 
 -- five nodes, all joined: the limit is the splits needed, and one less
-pub thickest : List Row
-thickest =
+pub by-largest-sum : List Row
+by-largest-sum =
     row (0 ∷ 1 ∷ 2 ∷ 3 ∷ 4 ∷ []) (five half) 5 710937498 710937502 5 true 710937500
     ∷ row (0 ∷ 1 ∷ 2 ∷ 3 ∷ 4 ∷ []) (five half) 4 660156248 753906252 4 false 710937500
     ∷ []
 
 -- by the rule of document 01
-pub first : List Row
-first =
+pub by-first-link : List Row
+by-first-link =
     row (0 ∷ 1 ∷ 2 ∷ 3 ∷ 4 ∷ []) (five half) 5 710937499 710937502 5 true 710937500
     ∷ row (0 ∷ 1 ∷ 2 ∷ 3 ∷ 4 ∷ []) (five half) 4 589843749 777343751 4 false 710937500
     ∷ []
 
 -- the rows of the paper stand by either choice
-pub examples : (every (right chosen) rows && every (right firstLink) rows && every (right chosen) thickest && every (right firstLink) first) ≡ true
-unfolding right same rows thickest first row link triangle half four five treeOf grown run largestSum largest degree leaves nextAt without deleteAt lowest firstPair places firstAt exact sum lastOfEach connected every label merge quotient product parallel either series factor split
+pub examples : (every (right chosen) rows && every (right firstLink) rows && every (right chosen) by-largest-sum && every (right firstLink) by-first-link) ≡ true
+unfolding right same rows by-largest-sum by-first-link row link triangle half four five treeOf grown run largestSum largest degree leaves nextAt without deleteAt lowest firstPair places firstAt exact sum lastOfEach connected every label merge quotient product parallel either series factor split
 examples = refl

@@ -1,9 +1,9 @@
 -- What is asked of a rule, whatever its networks are, so that its figures enclose the exact sum.
 use Prim.Native.Nat.{ℕ, zero, suc, _+_, _-_, _*_, _^_, _≤_, _<_, min}
-use mathlib.Core.Path.{_≡_, refl}
+use mathlib.Core.Path.{_≡_, refl, sym, ap, _∙_}
 use mathlib.Core.List.{List, [], _∷_, _++_, map, List·Memᴰ}
-use mathlib.Core.Bool.{Bool, true, false, cond}
-use mathlib.Core.Logic.{_⊎_}
+use mathlib.Core.Bool.{Bool, true, false, cond, false≢true, true≢false}
+use mathlib.Core.Logic.{_⊎_, inl, inr}
 use native.Mathlib.Omega.{arith}
 use lib.ListN.{length}
 use Rattle.rounding.specs.Rounding.{S}
@@ -24,6 +24,27 @@ Leaves P (branches e sound broken) = P sound × P broken × ((d : Direction) →
 -- what is left is the same for every place, or for every place it is two branches
 abbrev pub Uniform : {N : Type 0} → (ℕ → Remainder N) → Type 0
 Uniform {N} x = ((r : Remainder N) × ((i : ℕ) → x i ≡ r)) ⊎ ((i : ℕ) → (e : Link) × (s : N) × (b : N) × (x i ≡ branches e s b))
+
+module _ {N : Type 0} {x : ℕ → Remainder N} where
+  -- a split is left for every place, or for none
+  pub all-alike : Uniform x → (i j : ℕ) → isSplit (x i) ≡ isSplit (x j)
+  all-alike (inl u) i j = ap isSplit (u .1 i ∙ sym (u .1 j))
+  all-alike (inr u) i j = let (e, s, b, q) = u i in let (e, s, b, p) = u j in ap isSplit q ∙ sym (ap isSplit p)
+
+  -- but for a split, what is left is the same for every place
+  pub same-step : Uniform x → (i j : ℕ) → isSplit (x i) ≡ false → x j ≡ x i
+  same-step (inl u) i j other = u .1 j ∙ sym (u .1 i)
+  same-step (inr u) i j other = let (e, s, b, q) = u i in absurd (true≢false (ap isSplit (sym q) ∙ other))
+
+  -- the two branches of a split
+  pub everywhere : Uniform x → (i : ℕ) → isSplit (x i) ≡ true → (j : ℕ) → (e : Link) × (s : N) × (b : N) × (x j ≡ branches e s b)
+  everywhere u i split j = of (x j) refl
+    where
+      of : (r : Remainder N) → x j ≡ r → (e : Link) × (s : N) × (b : N) × (x j ≡ branches e s b)
+      of (branches e s b) q = (e, s, b, q)
+      of (settled k) q = absurd (false≢true (ap isSplit (sym q) ∙ all-alike u j i ∙ split))
+      of (rest h) q = absurd (false≢true (ap isSplit (sym q) ∙ all-alike u j i ∙ split))
+      of (scaled k h) q = absurd (false≢true (ap isSplit (sym q) ∙ all-alike u j i ∙ split))
 
 -- the sum over the sets of the links es that connect the nodes vs, at one direction's values
 abbrev pub over : Direction → List ℕ → List Link → ℕ

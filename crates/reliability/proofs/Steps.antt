@@ -14,7 +14,7 @@ use Rattle.reliability.specs.declared.Link.{Link}
 use Rattle.reliability.specs.declared.Step.{Step}
 use Rattle.reliability.specs.declared.Step.the-variants.{OneNode, Disconnected, Loop, Parallel, End, Series, Split}
 use Rattle.reliability.specs.Networks.{Network, Ascending, Valid, ends, linkAt, label, every, connected, piecesOf}
-use Rattle.reliability.specs.Rule.{isLoop, touches, alike, firstAt, firstPair, places, lowest, endOf, seriesOf, when, _otherwise_, nextAt, firstLink, chosen, next, deleteAt, deleted, contracted, across, leaves, stepAt}
+use Rattle.reliability.specs.Rule.{isLoop, touches, alike, firstAt, firstPair, places, lowest, endOf, seriesOf, when, _otherwise_, nextAt, firstLink, chosen, next, deleteAt, across, leaves, stepAt}
 use Rattle.reliability.proofs.Lists.{or-true, getD-mem}
 use Rattle.reliability.proofs.Pieces.{one-piece}
 use Rattle.reliability.proofs.Lawful.{Uniform, View, Place}

@@ -6,7 +6,6 @@ use native.Mathlib.Omega.{arith}
 use lib.ListN.{length}
 use Rattle.rounding.specs.Rounding.{S}
 use Rattle.rounding.specs.declared.Direction.{Direction}
-use Rattle.reliability.specs.declared.Link.{Link}
 use Rattle.reliability.specs.declared.Step.the-variants.{Split}
 use Rattle.reliability.specs.Networks.{Network, Valid, linkAt}
 use Rattle.reliability.specs.Rule.{Remainder, settled, rest, scaled, branches, nextAt, chosen, next, deleted, contracted, leaves, stepAt, Tree, ready, multiplied, fork, taken, grown, isSplit, treeOf, tree, side, figure}

@@ -108,6 +108,7 @@ largestSum g =
 abbrev pub firstLink : Network → ℕ
 firstLink g = 0
 
+-- the rule's choice
 abbrev pub chosen : Network → ℕ
 chosen g = largestSum g
 
@@ -209,8 +210,8 @@ isSplit (rest g) = false
 isSplit (scaled k g) = false
 isSplit (branches e sound broken) = true
 
--- the tree of a network of m links, by what each step leaves and by the choice of the link to split on:
--- each step leaves one link less, and a network without links is settled; the last place is m, where there is one link more
+-- the tree of a network of m links, by what each step leaves and by the choice of the link to split on: each step leaves one link
+-- less, and a network without links is settled. A network of m + 1 links has places from 0 to m, and a place past them means the last
 unfoldable pub treeOf : {N : Type 0} → (ℕ → N → Remainder N) → (N → ℕ) → ℕ → N → Tree
 treeOf step choose zero g = grown (λ h. ready (λ d. 0)) (choose g) (step (choose g) g)
 treeOf step choose (suc m) g =
@@ -249,10 +250,6 @@ more n f = record { low = f .low; high = f .high; steps = n + f .steps; finished
 -- one step more
 abbrev pub stepped : Figure → Figure
 stepped f = record { low = f .low; high = f .high; steps = suc (f .steps); finished = f .finished }
-
--- a split takes one step
-abbrev pub blend : Link → Figure → Figure → Figure
-blend e s t = stepped (mixed e s t)
 
 -- no step is left for a split
 abbrev pub unfinished : Figure

@@ -1,7 +1,7 @@
 -- What is claimed of a sitting, over what the call returns and what it leaves in its two buffers.
 use Prim.Native.Nat.{ℕ, _+_, _-_, _≤_, min}
 use mathlib.Core.Path.{_≡_, refl, sym, ap, ap₂, _∙_, subst}
-use mathlib.Core.List.{List, [], _++_}
+use mathlib.Core.List.{List, [], _∷_, _++_}
 use mathlib.Core.Logic.{_⊎_, inl, inr, _↔_}
 use mathlib.Core.Bool.{Bool, true, false}
 use native.Mathlib.Omega.{arith}
@@ -12,7 +12,7 @@ use borrow.Author.Tests.{eqb-true}
 use Rattle.reliability.specs.declared.Figure.{Figure}
 use Rattle.reliability.specs.Networks.{Network, Valid}
 use Rattle.reliability.specs.Exact.{altogether}
-use Rattle.reliability.specs.Rule.{figure, Tree, tree, run, more}
+use Rattle.reliability.specs.Rule.{figure, Tree, treeBy, tree, run, more}
 use Rattle.plan.specs.Plans.{WellFormed, planOf}
 use Rattle.plan.proofs.Verdicts.{accepted-means}
 use Rattle.plan.proofs.Accepted.{plan-valid}
@@ -22,7 +22,7 @@ use Rattle.refusals.specs.Refusals.{callReturned}
 use Rattle.refusals.proofs.Calls.{call-number-range, zero-accepted}
 use Rattle.answers.specs.Answers.{answerBytes, withFigure, stepsIn}
 use Rattle.answers.proofs.Laws.{steps-written}
-use Rattle.sittings.specs.Sittings.{Open, opens, resumed, Saved, begun, complete, Sitting, nothing, most, sitting, savedAfter, Choosing, savedBy}
+use Rattle.sittings.specs.Sittings.{Open, opens, resumed, Saved, begun, complete, Sitting, nothing, most, sitting, savedAfter, Choosing, byLargestSum, choiceOf, savedBy}
 use Rattle.sittings.proofs.Bounds.{Deep, opens-few, resumed-deep, tree-formed}
 use Rattle.sittings.proofs.GoodSaved.{GoodSaved, saved-good}
 use Rattle.sittings.proofs.Totals.{totals, total-figure, capped, first-figure, at-most}
@@ -30,7 +30,7 @@ use Rattle.saved.specs.Format.{stateIn, takenIn, opensOf, savedBytes, over}
 use Rattle.saved.proofs.Laws.{complete-means, begun-means, begun-size, complete-size, begun-state, begun-count, complete-state, zeros, zeros-nothing}
 use Rattle.saved_verdict.proofs.Laws.{saved-means}
 use Rattle.sitting_desk.specs.Outcome.{SittingOutcome, carriedOn, verdictOf, sittingOf, sittingOutcome}
-use Rattle.sitting_desk.specs.Chains.{Lent, Allowed, AllAllowed, handed, sat, handedOn, limits}
+use Rattle.sitting_desk.specs.Chains.{Lent, Allowed, AllAllowed, handed, sat, handedOn, limits, Earlier}
 use Rattle.sitting_desk.specs.Demands.{Full, Refusal, Keeps}
 use Rattle.sitting_desk.proofs.Carrying.{plan-deep}
 use Rattle.sitting_desk.proofs.Outcomes.{AcceptedCall, accepted-call, call-accepted, refused, completed, carried}
@@ -176,29 +176,40 @@ module _ (plan : List ℕ) (well : WellFormed plan) where
   valid : Valid g
   valid = plan-valid plan (accepted-means plan .1 well)
 
-  -- saved work that came from this plan's earlier sittings, each by document 01's choice or by the rule's
-  pub record Earlier (s : Saved) : Type 0 where
-    pub sittings : List (Choosing × ℕ)
-    pub same : s ≡ savedBy g nothing sittings
-
-  pub good : (s : Saved) → Earlier s → GoodSaved g s
+  pub good : (s : Saved) → Earlier plan s → GoodSaved g s
   good s e = subst (GoodSaved g) (sym (e .same)) (saved-good g valid (e .sittings))
 
   -- nothing
-  pub first : Earlier nothing
+  pub first : Earlier plan nothing
   unfolding savedBy
   first = record { sittings = []; same = refl }
 
   -- they are accepted, by the checks 10 and 11 too, and a sitting that is handed them is the sitting of its definition
-  pub earlier-accepted : (s : Saved) → Earlier s → Keeps plan (savedBytes s)
+  pub earlier-accepted : (s : Saved) → Earlier plan s → Keeps plan (savedBytes s)
   earlier-accepted s e = kept plan well s (fits plan well s (good s e))
 
-  pub earlier-carried : (s : Saved) → Earlier s → (x : Lent) → Allowed x → sat plan (savedBytes s) x ≡ carriedOn (sitting (tree g) s (x .limit)) (x .answer) (x .work)
+  pub earlier-carried : (s : Saved) → Earlier plan s → (x : Lent) → Allowed x → sat plan (savedBytes s) x ≡ carriedOn (sitting (tree g) s (x .limit)) (x .answer) (x .work)
   earlier-carried s e = one plan well s (fits plan well s (good s e))
+
+  -- what it hands on came from earlier sittings again
+  one-more : (s : Saved) (xs : List (Choosing × ℕ)) (x : Choosing × ℕ) → savedBy g s (xs ++ (x ∷ [])) ≡ sitting (treeBy (choiceOf (x .0)) g) (savedBy g s xs) (x .1) .saved
+  unfolding savedBy
+  one-more s [] x = refl
+  one-more s (y ∷ xs) x = one-more (sitting (treeBy (choiceOf (y .0)) g) s (y .1) .saved) xs x
+
+  pub earlier-on : (s : Saved) → Earlier plan s → (x : Lent) → Allowed x
+      → let r = sitting (tree g) s (x .limit) .saved in Earlier plan r × (handed (sat plan (savedBytes s) x .work) ≡ savedBytes r)
+  earlier-on s e x a = (
+    record {
+      sittings = e .sittings ++ ((byLargestSum, x .limit) ∷ []);
+      same = ap (λ r. sitting (tree g) r (x .limit) .saved) (e .same) ∙ sym (one-more nothing (e .sittings) (byLargestSum, x .limit));
+    },
+    hands plan well s (good s e) x a,
+  )
 
   -- ---- several sittings from the same saved work, and one more
 
-  module _ (s : Saved) (e : Earlier s) (xs : List Lent) (before : AllAllowed xs) (x : Lent) (a : Allowed x) where
+  module _ (s : Saved) (e : Earlier plan s) (xs : List Lent) (before : AllAllowed xs) (x : Lent) (a : Allowed x) where
     abbrev saved : Saved
     saved = savedAfter (tree g) s (limits xs)
 

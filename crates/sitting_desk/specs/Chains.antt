@@ -1,9 +1,12 @@
 -- Several sittings of a plan, each handed what the one before it wrote.
 use Prim.Native.Nat.{ℕ, _+_, _*_, _≤_}
+use mathlib.Core.Path.{_≡_}
 use mathlib.Core.List.{List, [], _∷_}
 use mathlib.Core.Bool.{cond}
 use lib.Dec.{eqb}
 use lib.ListN.{length, take}
+use Rattle.plan.specs.Plans.{planOf}
+use Rattle.sittings.specs.Sittings.{Saved, nothing, Choosing, savedBy}
 use Rattle.saved.specs.Format.{countIn, stateIn}
 use Rattle.sitting_desk.specs.Outcome.{SittingOutcome, sittingOutcome}
 
@@ -38,3 +41,8 @@ handedOn plan saved (x ∷ xs) = handedOn plan (handed (sat plan saved x .work))
 abbrev pub limits : List Lent → List ℕ
 limits [] = []
 limits (x ∷ xs) = x .limit ∷ limits xs
+
+-- saved work that came from the plan's earlier sittings, each by document 01's choice of the link to split on or by the rule's
+pub record Earlier (plan : List ℕ) (s : Saved) : Type 0 where
+  pub sittings : List (Choosing × ℕ)
+  pub same : s ≡ savedBy (planOf plan) nothing sittings

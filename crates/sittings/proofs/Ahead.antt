@@ -89,7 +89,7 @@ pub check-11 : every passes made-up ≡ true
 unfolding passes same made-up only deep every traced
 check-11 = refl
 
--- on the nine links left of five: the first link or the thickest, in any mixture
+-- on the nine links left of five: the first link or the one with the largest sum, in any mixture
 pub mixtures : List (List Open × Bool)
 mixtures =
     (known 0 (λ d. 0) ∷ running 0 ∷ [], true) ∷ (known 0 (λ d. 0) ∷ running 6 ∷ [], true) ∷ (known 0 (λ d. 0) ∷ running 1 ∷ [], false)

@@ -2,16 +2,16 @@
 use Prim.Native.Nat.{ℕ, zero, suc, _-_, _≤_, min, zero-le, suc-le-suc}
 use mathlib.Core.Path.{_≡_, refl, sym, ap, _∙_, subst}
 use mathlib.Core.List.{List, [], _∷_}
-use mathlib.Core.Bool.{Bool, true, false, cond, _&&_, _||_, false≢true, and-eq-true-iff}
-use mathlib.Core.Logic.{inl, inr}
+use mathlib.Core.Bool.{Bool, true, false, cond, _||_, false≢true, and-eq-true-iff}
 use native.Mathlib.Nat.{le-suc, le-of-suc-le-suc, not-suc-le-zero}
 use native.Mathlib.Omega.{arith}
 use lib.Dec.{eqb}
 use lib.ListN.{length}
 use Rattle.reliability.specs.declared.Link.{Link}
+use Rattle.reliability.specs.declared.Figure.{Figure}
 use Rattle.reliability.specs.Networks.{Network, Valid as NetworkValid}
 use Rattle.reliability.specs.Rule.{chosen, stepAt, Remainder, settled, rest, scaled, branches, Tree, ready, multiplied, fork, taken, grown, isSplit, treeOf, tree, run}
-use Rattle.reliability.proofs.Lawful.{Leaves, Uniform, View, Place, Sized, Lawful, Choice, of-tree}
+use Rattle.reliability.proofs.Lawful.{Leaves, View, Place, Sized, Lawful, Choice, everywhere, of-tree}
 use Rattle.reliability.proofs.Runs.{Ranged}
 use Rattle.reliability.proofs.Steps.{view, chosen-link}
 use Rattle.reliability.proofs.Enclosure.{lawful as law, ranged}
@@ -20,13 +20,13 @@ use Rattle.sittings.specs.Entries.{Known, InRange}
 use Rattle.sittings.proofs.Sittings.{Back, Formed}
 
 -- what holds of the open splits of a taken split, whether its sound branch is finished or not
-by-opened : (P : List Open → Type 0) (i : ℕ) (s : Tree) (l : ℕ) (sound broken : List Open)
-    → P (known i (sides (run s l)) ∷ broken) → P (running i ∷ sound) → P (opened i (run s l) sound broken)
-by-opened P i s l sound broken whole part = go (run s l .finished)
+pub by-opened : (P : List Open → Type 0) (i : ℕ) (f : Figure) (sound broken : List Open)
+    → (f .finished ≡ true → P (known i (sides f) ∷ broken)) → P (running i ∷ sound) → P (opened i f sound broken)
+by-opened P i f sound broken whole part = go (f .finished) refl
   where
-    go : (c : Bool) → P (elim c [ true ↦ known i (sides (run s l)) ∷ broken | false ↦ running i ∷ sound ])
-    go true = whole
-    go false = part
+    go : (c : Bool) → f .finished ≡ c → P (elim c [ true ↦ known i (sides f) ∷ broken | false ↦ running i ∷ sound ])
+    go true e = whole e
+    go false e = part
 
 -- ---- ranges
 
@@ -57,8 +57,8 @@ opens-few n (fork i w) h zero = zero-le
 opens-few n (fork i w) h (suc l) = opens-few n (w i) (h i) l
 opens-few zero (taken i e s b) h l = absurd h
 opens-few (suc n) (taken i e s b) h l =
-    by-opened (λ os. length os ≤ suc n) i s l (opens s l) (opens b (l - run s l .steps))
-    (suc-le-suc (opens-few n b (h .1) (l - run s l .steps))) (suc-le-suc (opens-few n s (h .0) l))
+    by-opened (λ os. length os ≤ suc n) i (run s l) (opens s l) (opens b (l - run s l .steps))
+    (λ done. suc-le-suc (opens-few n b (h .1) (l - run s l .steps))) (suc-le-suc (opens-few n s (h .0) l))
 
 pub resumed-deep : (n : ℕ) (t : Tree) → Deep n t → (os : List Open) → Deep n (resumed t os)
 unfolding resumed
@@ -124,20 +124,6 @@ module _ {N : Type 0} (Valid : N → Type 0) (μ : View N) (step : ℕ → N →
   grown-formed m grow each i (scaled k h) l = each h (l .0)
   grown-formed m grow each i (branches e x y) l = (each x (l .0), each y (l .1))
 
-  -- where step 7 fits, it fits at every place
-  everywhere : (g : N) → isSplit (step (choose g) g) ≡ true → (i : ℕ) → (e : Link) × (s : N) × (b : N) × (step i g ≡ branches e s b)
-  everywhere g split i = go (lawful .uniform g)
-    where
-      of : (r : Remainder N) → isSplit r ≡ true → (e : Link) × (s : N) × (b : N) × (r ≡ branches e s b)
-      of (settled k) h = absurd (false≢true h)
-      of (rest x) h = absurd (false≢true h)
-      of (scaled k x) h = absurd (false≢true h)
-      of (branches e s b) h = (e, s, b, refl)
-
-      go : Uniform (λ j. step j g) → (e : Link) × (s : N) × (b : N) × (step i g ≡ branches e s b)
-      go (inl u) = of (step i g) (ap isSplit (u .1 i ∙ sym (u .1 (choose g))) ∙ split)
-      go (inr u) = u i
-
   pub formed-of : (m : ℕ) (g : N) → Sized Valid μ m g → Formed (treeOf step choose m g)
   unfolding treeOf grown
   formed-of zero g h = subst (λ (r : Remainder N). Formed (grown (λ h. ready (λ d. 0)) (choose g) r)) (sym (lawful .none-left g h (choose g) .2)) tt
@@ -148,7 +134,7 @@ module _ {N : Type 0} (Valid : N → Type 0) (μ : View N) (step : ℕ → N →
       back : isSplit (step (choose g) g) ≡ true → (j : ℕ) → Back (λ i. grown (treeOf step choose m) (min i m) (step (min i m) g)) (grown (treeOf step choose m) (min j m) (step (min j m) g))
       back split j =
           let p = min j m in
-          let (e, s, b, q) = everywhere g split p in
+          let (e, s, b, q) = everywhere (lawful .uniform g) (choose g) split p in
           let same : min p m ≡ p = omega arith in
           subst (λ (r : Remainder N). grown (treeOf step choose m) (min p m) (step (min p m) g) ≡ grown (treeOf step choose m) p r → Back (λ i. grown (treeOf step choose m) (min i m) (step (min i m) g)) (grown (treeOf step choose m) p r)) (sym q)
           (λ h. h) (ap (λ i. grown (treeOf step choose m) i (step i g)) same)

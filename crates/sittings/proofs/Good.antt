@@ -15,21 +15,13 @@ use Rattle.reliability.specs.declared.Figure.{Figure}
 use Rattle.reliability.specs.Networks.{value}
 use Rattle.reliability.specs.Exact.{altogether}
 use Rattle.reliability.specs.Rule.{Remainder, settled, rest, scaled, branches, Tree, ready, multiplied, fork, taken, grown, isSplit, treeOf, bounded, side, mixed, run, budget}
-use Rattle.reliability.proofs.Lawful.{Leaves, Uniform, View, Place, Sized, Lawful, Choice}
+use Rattle.reliability.proofs.Lawful.{Leaves, all-alike, same-step, View, Place, Sized, Lawful, Choice}
 use Rattle.reliability.proofs.Runs.{side-bounded, Ranged, range}
-use Rattle.reliability.proofs.Enclosure.{Encloses, Figured, Says, says, uncounted, encloses, ranged}
+use Rattle.reliability.proofs.Enclosure.{Encloses, Figured, Says, says, encloses, ranged}
 use Rattle.reliability.proofs.Weights.{near-weights, low-below-high, total-pos, gaps, low-enclosed}
 use Rattle.sittings.specs.Sittings.{Open, running, known, placeOf, sides, opened, opens, resumed, traced}
 use Rattle.sittings.specs.Entries.{Known, InRange, InOrder}
-
--- what holds of the open splits of a taken split, whether its sound branch is finished or not
-by-opened : (P : List Open → Type 0) (i : ℕ) (f : Figure) (sound broken : List Open)
-    → (f .finished ≡ true → P (known i (sides f) ∷ broken)) → P (running i ∷ sound) → P (opened i f sound broken)
-by-opened P i f sound broken whole part = go (f .finished) refl
-  where
-    go : (c : Bool) → f .finished ≡ c → P (elim c [ true ↦ known i (sides f) ∷ broken | false ↦ running i ∷ sound ])
-    go true e = whole e
-    go false e = part
+use Rattle.sittings.proofs.Bounds.{by-opened}
 
 -- the place of the first open split
 abbrev pub firstPlace : List Open → ℕ
@@ -77,22 +69,6 @@ module _ {N : Type 0} (Valid : N → Type 0) (μ : View N) (step : ℕ → N →
   -- ---- one step
 
   module _ (g : N) where
-    -- what is left is the same for every place, but for a split
-    same-step : (i j : ℕ) → isSplit (step i g) ≡ false → step j g ≡ step i g
-    same-step i j other = go (lawful .uniform g)
-      where
-        go : Uniform (λ n. step n g) → step j g ≡ step i g
-        go (inl u) = u .1 j ∙ sym (u .1 i)
-        go (inr u) = let (e, s, b, q) = u i in absurd (true≢false (ap isSplit (sym q) ∙ other))
-
-    -- a split is left for every place, or for none
-    all-alike : (i j : ℕ) → isSplit (step i g) ≡ isSplit (step j g)
-    all-alike i j = go (lawful .uniform g)
-      where
-        go : Uniform (λ n. step n g) → isSplit (step i g) ≡ isSplit (step j g)
-        go (inl u) = ap isSplit (u .1 i ∙ sym (u .1 j))
-        go (inr u) = let (e, s, b, q) = u i in let (e, s, b, p) = u j in ap isSplit q ∙ sym (ap isSplit p)
-
     module _ (m : ℕ) where
       abbrev On : List Open → Remainder N → Type 0
       On os r = Stand m (Stands m) g os r
@@ -109,11 +85,11 @@ module _ {N : Type 0} (Valid : N → Type 0) (μ : View N) (step : ℕ → N →
       -- but for a split, what is left does not depend on the place
       stands-other : (i : ℕ) (r : Remainder N) → step i g ≡ r → isSplit r ≡ false → (os : List Open) → On os r → Stands (suc m) g os
       unfolding Stands
-      stands-other i r e other os on = subst (On os) (sym (same-step i (firstPlace os) (ap isSplit e ∙ other) ∙ e)) on
+      stands-other i r e other os on = subst (On os) (sym (same-step (lawful .uniform g) i (firstPlace os) (ap isSplit e ∙ other) ∙ e)) on
 
       on-other : (i : ℕ) → isSplit (step i g) ≡ false → (os : List Open) → Stands (suc m) g os → On os (step i g)
       unfolding Stands
-      on-other i other os on = subst (On os) (same-step i (firstPlace os) other) on
+      on-other i other os on = subst (On os) (same-step (lawful .uniform g) i (firstPlace os) other) on
 
       -- where one network is left, what stands on it stands on what is left
       on-one : (h : N) (r : Remainder N) → ((o : Open) (os : List Open) → Stands m h (o ∷ os) → On (o ∷ os) r) → (os : List Open) → Stands m h os → On os r
@@ -127,7 +103,7 @@ module _ {N : Type 0} (Valid : N → Type 0) (μ : View N) (step : ℕ → N →
         where
           go : (c : Bool) → isSplit (step (placeOf o) g) ≡ c → P (step (placeOf o) g)
           go true e = each (placeOf o) (named g (placeOf o) (on-allowed o os (step (placeOf o) g) on e))
-          go false e = subst P (same-step (placeOf o) 0 e) (each 0 (λ here. here))
+          go false e = subst P (same-step (lawful .uniform g) (placeOf o) 0 e) (each 0 (λ here. here))
 
   -- ---- the known figures
 
@@ -184,8 +160,7 @@ module _ {N : Type 0} (Valid : N → Type 0) (μ : View N) (step : ℕ → N →
       range = (values, sound .range, broken .range);
       near = λ d l.
           let f = run s l in
-          let t = run b (l - f .steps) in
-          uncounted Valid μ step lawful d (suc m) (mixed e f t) g (say d f t (sound .near d l) (broken .near d (l - f .steps)));
+          say d f (run b (l - f .steps)) (sound .near d l) (broken .near d (l - f .steps));
       kept = λ l.
           let n = l - run s l .steps in
           by-opened (Stands (suc m) g) i (run s l) (opens s l) (opens b n)
@@ -231,7 +206,7 @@ module _ {N : Type 0} (Valid : N → Type 0) (μ : View N) (step : ℕ → N →
     -- where a split is next, the first open split is at an allowed place
     first-allowed : (m : ℕ) (g : N) → isSplit (step (choose g) g) ≡ true → (o : Open) (os : List Open) → Stands (suc m) g (o ∷ os) → Allowed g (placeOf o)
     unfolding Stands
-    first-allowed m g e o os on = on-allowed g m o os (step (placeOf o) g) on (all-alike g (placeOf o) (choose g) ∙ e)
+    first-allowed m g e o os on = on-allowed g m o os (step (placeOf o) g) on (all-alike (lawful .uniform g) (placeOf o) (choose g) ∙ e)
 
     module _ (m : ℕ) (each : (h : N) (os : List Open) → Sized Valid μ m h → Stands m h os → Carries m h (resumed (of m h) os)) (g : N) where
       left-carries : (i : ℕ) (r : Remainder N) → step i g ≡ r → Allowed g i → Leaves (Sized Valid μ m) r → ((d : Direction) → Says μ d m g r)

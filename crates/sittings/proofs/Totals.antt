@@ -1,22 +1,18 @@
 -- A user who works through several sittings gets the answer of one sitting whose limit is their total.
-use Prim.Native.Nat.{ℕ, _+_, _-_, _≤_, min, zero-le}
-use mathlib.Core.Path.{_≡_, refl, sym, ap, ap₂, _∙_, subst}
+use Prim.Native.Nat.{ℕ, _+_, _-_, _≤_, min}
+use mathlib.Core.Path.{_≡_, refl, sym, ap, ap₂, _∙_}
 use mathlib.Core.List.{List, [], _∷_}
 use mathlib.Core.Bool.{Bool, true, false}
-use native.Mathlib.Nat.{add-assoc, add-zero, zero-add, le-trans}
+use native.Mathlib.Nat.{add-assoc, zero-add}
 use native.Mathlib.Omega.{arith}
 use lib.Dec.{leb}
-use lib.ListN.{length}
 use borrow.Author.Tests.{le-leb, lt-leb, leb-true, leb-false}
-use Rattle.rounding.specs.Rounding.{S}
 use Rattle.reliability.specs.declared.Figure.{Figure}
 use Rattle.reliability.specs.Networks.{Network, Valid}
 use Rattle.reliability.specs.Exact.{altogether}
 use Rattle.reliability.specs.Rule.{figure, more, Tree, run, splits, tree}
 use Rattle.reliability.proofs.Runs.{steps, finished, all-taken, stays}
-use Rattle.reliability.proofs.Theorems.{low-high, high-range}
-use Rattle.sittings.specs.Sittings.{Open, opens, resumed, traced, Saved, begun, complete, Sitting, nothing, most, keeping, sitting, savedAfter}
-use Rattle.sittings.specs.Entries.{Known, InRange, InOrder}
+use Rattle.sittings.specs.Sittings.{Open, opens, resumed, Saved, begun, complete, Sitting, nothing, most, keeping, sitting, savedAfter}
 use Rattle.sittings.proofs.Sittings.{more-zero, Formed, two-figure, two-opens}
 use Rattle.sittings.proofs.Bounds.{tree-formed}
 

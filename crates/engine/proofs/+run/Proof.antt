@@ -22,7 +22,7 @@ use Rattle.reliability.proofs.Unrolled.{Below}
 use Rattle.network.specs.declared.Network.{Network}
 use Rattle.network.specs.Places.{rowOf as linkRow, linksOf, networkOf, indexOf, linkOf, Invariant, Used, Sized, ranked, Fitting, assembled}
 use Rattle.network.proofs.Ends.{ended}
-use Rattle.network.proofs.Kept.{known, ends-below}
+use Rattle.network.proofs.Kept.{ends-below}
 use Rattle.steps.specs.declared.Next.{Next}
 use Rattle.steps.specs.declared.Next.the-variants.{OneNode as One, End as Ended, Series as InSeries, Split as Splitting}
 use Rattle.steps.specs.Simple.{Workable, stepOf}
