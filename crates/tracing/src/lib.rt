@@ -1,4 +1,4 @@
-// Check 11: whether the open splits of saved work are splits of the written rule on a network.
+// Check 11: whether the written rule comes to the open splits of saved work on a network, each on the first link or on the chosen one.
 use network::Network;
 use steps::Next;
 ghost use mathlib.Core.Path.{_≡_};
