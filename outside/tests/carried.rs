@@ -2,7 +2,7 @@
 //! by the library and held to the independent version. Also work of several sittings by either choice, in turns.
 
 use outside::arithmetic::S;
-use outside::calls::{answer_of, MOST_STEPS};
+use outside::calls::{answer_of, read, MOST_STEPS};
 use outside::plans::Plan;
 use outside::random::Random;
 use outside::repository::{plan, plans_with};
@@ -200,7 +200,7 @@ fn large_plans() {
             let steps = 1 + random.up_to(300);
             saved = sat_by(choice, &file, steps, &saved).work;
         }
-        let plan = Plan::new(0, &[]);
+        let plan = read(&file).unwrap();
         let old = Old { plan, file, saved };
         assert!(!finished(&old.sat(0)));
         met.work(&old);
