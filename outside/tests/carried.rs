@@ -364,19 +364,22 @@ fn steps_and_marks_near_the_most() {
     assert!(met.iter().all(|count| *count > 150), "{met:?}");
 }
 
-/// The mesh, by the first link's rule, then by the library to the most steps and no further.
+/// The mesh, by the first link's rule, then by the library to the most steps and no further, with 600,000 steps put in that were
+/// not taken.
 #[test]
 fn the_mesh_to_the_most_steps() {
     let file = plan("mesh");
-    let mut saved = sat_by(FirstLink, &file, 300_000, &NOTHING).work;
+    let plan = read(&file).unwrap();
+    let saved = sat_by(FirstLink, &file, 100_000, &NOTHING).work;
+    let mut old = Old { plan, file, saved }.with_steps(700_000);
     for (limit, steps) in [
-        (200_000, 500_000),
+        (100_000, 800_000),
         (MOST_STEPS, MOST_STEPS),
         (7, MOST_STEPS),
     ] {
-        let sat = carried(&file, limit, &saved);
+        let sat = old.sat(limit);
         assert_eq!((answer(&sat).steps, finished(&sat)), (steps, false));
-        saved = sat.work;
+        old.saved = sat.work;
     }
 }
 
