@@ -398,6 +398,12 @@ pub fn places_chosen(plan: &[u8], begun: &Begun) -> Vec<[u32; 2]> {
     (0..begun.places.len()).map(at).collect()
 }
 
+/// The ends of the links left at each open split of accepted work.
+pub fn ends_left(plan: &[u8], begun: &Begun) -> Vec<Vec<[u8; 2]>> {
+    let at = |i: usize| split_behind(plan, &begun.first(i)).unwrap().ends();
+    (0..begun.places.len()).map(at).collect()
+}
+
 /// The most splits that are ever open when the plan is worked within so many steps, and after how many steps they are first.
 pub fn most_open(plan: &[u8], limit: u64) -> (usize, u64) {
     most_open_by(Choice::LargestSum, plan, limit)
