@@ -82,7 +82,8 @@ static int slot_of(const Network *g, uint32_t place)
 
 static int links_at(const struct run *r, const Network *g, int node)
 {
-    return r->slip == PLAN_COUNTS ? r->links_at[node] : __builtin_popcountll(g->at[node]);
+    int count = r->slip == PLAN_COUNTS ? r->links_at[node] : __builtin_popcountll(g->at[node]);
+    return r->slip == FOUR_BIT_COUNTS ? count % 16 : count;
 }
 
 /* What of a link has to be largest. */
@@ -98,6 +99,8 @@ static int weight(const struct run *r, const Network *g, int slot)
         return x < y ? x : y;
     case SMALLEST_SUM:
         return 1000 - x - y;
+    case FIVE_BIT_SUMS:
+        return (x + y) % 32;
     default:
         return x + y;
     }

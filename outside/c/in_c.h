@@ -29,6 +29,8 @@ enum {
     OLD_STEPS_FORGOTTEN, /* the same for work of the first link's rule */
     PLACE_0_WRITTEN,     /* place 0 is written for every open split */
     PLAN_PLACE_WRITTEN,  /* the place in the plan is written */
+    FOUR_BIT_COUNTS,     /* the counts are kept in four bits */
+    FIVE_BIT_SUMS,       /* the sums are kept in five bits */
 };
 
 uint64_t in_c_figure(long slip, const uint8_t *plan, size_t plan_len, uint64_t limit, uint8_t *answer, size_t answer_len);

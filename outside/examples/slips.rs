@@ -256,7 +256,7 @@ fn of_calls() -> Vec<Slip> {
 }
 
 /// Slips of the link that is split on and of work that is carried on, in the order of their numbers in `c/in_c.h`.
-const OF_CHOICE: [&str; 21] = [
+const OF_CHOICE: [&str; 23] = [
     "the largest product",
     "the latest of equal sums",
     "the counts of the plan",
@@ -278,6 +278,8 @@ const OF_CHOICE: [&str; 21] = [
     "the steps saved are forgotten of work of the first link",
     "place 0 is written for each open split",
     "the place in the plan is written",
+    "the counts are four bits",
+    "the sums are five bits",
 ];
 
 /// The kind of the calls in C.

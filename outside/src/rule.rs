@@ -214,6 +214,11 @@ impl Network {
         Step::Split(self)
     }
 
+    /// The ends of its links.
+    pub(crate) fn ends(&self) -> Vec<[u8; 2]> {
+        self.links.iter().map(|link| link.ends).collect()
+    }
+
     /// The place of the link that the choice takes.
     pub(crate) fn chosen(&self, choice: Choice) -> usize {
         match choice {

@@ -379,14 +379,28 @@ pub fn still_to_take(plan: &[u8], begun: &Begun) -> u64 {
     run.still(next)
 }
 
-/// The places that the choices take at each open split of accepted work, first link and largest sum.
-pub fn places_chosen(plan: &[u8], begun: &Begun) -> Vec<[u32; 2]> {
+/// The network that is split behind accepted open splits; none where a figure is known there.
+fn split_behind(plan: &[u8], begun: &Begun) -> Option<Network> {
     let plan = Network::from(&read(plan).expect("the plan is accepted"));
-    let at = |i: usize| {
-        let (_, next) = Run::resumed(plan.clone(), &begun.first(i)).unwrap();
-        let left = reduced(next).end.err().unwrap();
-        CHOICES.map(|choice| left.chosen(choice) as u32)
-    };
+    let (_, next) = Run::resumed(plan, begun).expect("the open splits are accepted");
+    reduced(next).end.err()
+}
+
+/// The places that the choices take there, first link and largest sum.
+pub fn next_chosen(plan: &[u8], begun: &Begun) -> Option<[u32; 2]> {
+    let left = split_behind(plan, begun)?;
+    Some(CHOICES.map(|choice| left.chosen(choice) as u32))
+}
+
+/// The same at each open split of accepted work.
+pub fn places_chosen(plan: &[u8], begun: &Begun) -> Vec<[u32; 2]> {
+    let at = |i: usize| next_chosen(plan, &begun.first(i)).unwrap();
+    (0..begun.places.len()).map(at).collect()
+}
+
+/// The ends of the links left at each open split of accepted work.
+pub fn ends_left(plan: &[u8], begun: &Begun) -> Vec<Vec<[u8; 2]>> {
+    let at = |i: usize| split_behind(plan, &begun.first(i)).unwrap().ends();
     (0..begun.places.len()).map(at).collect()
 }
 

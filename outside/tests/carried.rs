@@ -2,15 +2,17 @@
 //! by the library and held to the independent version. Also work of several sittings by either choice, in turns.
 
 use outside::arithmetic::S;
-use outside::calls::{answer_of, MOST_STEPS};
+use outside::calls::{answer_of, read, MOST_STEPS};
 use outside::plans::Plan;
 use outside::random::Random;
 use outside::repository::{plan, plans_with};
 use outside::rule::{needed_by, Answer, Choice, Network, CHOICES};
 use outside::sittings::{
-    held, most_splits, places_chosen, still_to_take, Begun, Sat, Sitting, NOTHING, RUNNING, WORK,
+    held, most_splits, next_chosen, places_chosen, still_to_take, Begun, Sat, Sitting, NOTHING,
+    RUNNING, WORK,
 };
 use outside::states::{Exact, MOST};
+use std::ops::Range;
 use Choice::{FirstLink, LargestSum};
 
 /// A sitting of the library.
@@ -200,7 +202,7 @@ fn large_plans() {
             let steps = 1 + random.up_to(300);
             saved = sat_by(choice, &file, steps, &saved).work;
         }
-        let plan = Plan::new(0, &[]);
+        let plan = read(&file).unwrap();
         let old = Old { plan, file, saved };
         assert!(!finished(&old.sat(0)));
         met.work(&old);
@@ -364,19 +366,22 @@ fn steps_and_marks_near_the_most() {
     assert!(met.iter().all(|count| *count > 150), "{met:?}");
 }
 
-/// The mesh, by the first link's rule, then by the library to the most steps and no further.
+/// The mesh, by the first link's rule, then by the library to the most steps and no further, with 600,000 steps put in that were
+/// not taken.
 #[test]
 fn the_mesh_to_the_most_steps() {
     let file = plan("mesh");
-    let mut saved = sat_by(FirstLink, &file, 300_000, &NOTHING).work;
+    let plan = read(&file).unwrap();
+    let saved = sat_by(FirstLink, &file, 100_000, &NOTHING).work;
+    let mut old = Old { plan, file, saved }.with_steps(700_000);
     for (limit, steps) in [
-        (200_000, 500_000),
+        (100_000, 800_000),
         (MOST_STEPS, MOST_STEPS),
         (7, MOST_STEPS),
     ] {
-        let sat = carried(&file, limit, &saved);
+        let sat = old.sat(limit);
         assert_eq!((answer(&sat).steps, finished(&sat)), (steps, false));
-        saved = sat.work;
+        old.saved = sat.work;
     }
 }
 
@@ -419,25 +424,38 @@ fn either_place_at_every_open_split_and_no_other() {
     assert!(met[0] > 10_000 && met[1] > 500 && met[2] > 100, "{met:?}");
 }
 
+/// Work with these open splits put at the places of a choice, as far as there are splits behind one another then.
+fn put_at(old: &Old, splits: Range<usize>, choice: usize) -> Begun {
+    let mut begun = old.begun();
+    for i in splits {
+        match next_chosen(&old.file, &begun.first(i)) {
+            Some(chosen) => begun.places[i] = chosen[choice],
+            None => break,
+        }
+    }
+    begun
+}
+
 /// The open splits of one run by one choice, taken by the other choice at each one alone, and at each one and all behind it.
 #[test]
 fn one_choice_for_the_other_at_each_open_split() {
     let mut random = Random::new(140);
-    let mut met = [0; 2];
-    for old in works(&mut random, 80, 28, &[&[FirstLink], &[LargestSum]]) {
-        let begun = old.begun();
-        let chosen = places_chosen(&old.file, &begun);
-        for i in 0..chosen.len() {
-            let mut other = begun.clone();
-            other.places[i] = chosen[i][usize::from(begun.places[i] == chosen[i][0])];
-            for limit in [0, 20] {
-                let (plan, saved) = (&old.file[..], &other.bytes()[..]);
-                let outcome = held(&Sitting { plan, limit, saved });
-                met[usize::from(outcome.is_ok())] += 1;
+    let mut met = [[0; 2]; 2];
+    let works = works(&mut random, 80, 28, &[&[FirstLink], &[LargestSum]]);
+    for (old, other) in works.iter().zip([1, 0].into_iter().cycle()) {
+        let count = old.begun().places.len();
+        for i in 0..count {
+            for (met, end) in met.iter_mut().zip([i + 1, count]) {
+                let changed = put_at(old, i..end, other).bytes();
+                for limit in [0, 20] {
+                    let (plan, saved) = (&old.file[..], &changed[..]);
+                    let outcome = held(&Sitting { plan, limit, saved });
+                    met[usize::from(outcome.is_ok())] += 1;
+                }
             }
         }
     }
-    assert!(met.iter().all(|count| *count > 50), "{met:?}");
+    assert!(met.iter().flatten().all(|count| *count > 50), "{met:?}");
 }
 
 /// The most open splits that a search has found a plan for, made up by hand, all at the first link; and of so many of them the last

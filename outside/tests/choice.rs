@@ -6,7 +6,9 @@ use outside::calls::{answer_of, held, Call};
 use outside::plans::{Plan, LENGTH};
 use outside::random::Random;
 use outside::rule::{figure_by, needed, needed_by, Answer, Choice, Network, CHOICES};
-use outside::sittings::{self, places_chosen, Begun, Sat, Sitting, NOTHING, RUNNING, WORK};
+use outside::sittings::{
+    self, ends_left, places_chosen, Begun, Sat, Sitting, NOTHING, RUNNING, WORK,
+};
 
 const HALF: u32 = S / 2;
 
@@ -41,6 +43,20 @@ fn ring(from: u8, count: u8) -> Vec<[u8; 2]> {
     (0..count)
         .map(|i| [from + i, from + (i + 1) % count])
         .collect()
+}
+
+fn count_at(ends: &[[u8; 2]], node: u8) -> usize {
+    ends.iter().filter(|ends| ends.contains(&node)).count()
+}
+
+/// The sums of the two counts at each link.
+fn sums(ends: &[[u8; 2]], count: impl Fn(u8) -> usize) -> Vec<usize> {
+    ends.iter().map(|[a, b]| count(*a) + count(*b)).collect()
+}
+
+fn earliest_of_the_largest(sums: &[usize]) -> usize {
+    let most = sums.iter().max().unwrap();
+    sums.iter().position(|sum| sum == most).unwrap()
 }
 
 /// Five nodes, each two joined by a half: the fresh figure, and the one carried on from three steps by the first link. They differ.
@@ -84,19 +100,14 @@ fn the_earliest_of_equal_sums() {
     ends.extend([[0, 2], [0, 3], [3, 5], [5, 0], [0, 4]]);
     ends.extend([[2, 6], [1, 4], [1, 6]]);
     let plan = |ends: &[[u8; 2]]| Plan::alike(7, HALF, ends);
-    let sums = |ends: &[[u8; 2]]| {
-        let count = |v: u8| ends.iter().filter(|ends| ends.contains(&v)).count();
-        let sums = ends.iter().map(|ends| count(ends[0]) + count(ends[1]));
-        sums.collect::<Vec<usize>>()
-    };
     let mut random = Random::new(121);
     let mut places = Vec::new();
     for _ in 0..200 {
         random.shuffle(&mut ends);
-        let sums = sums(&ends);
-        let most = sums.iter().max().unwrap();
-        assert!(sums.iter().filter(|sum| *sum == most).count() > 1);
-        let earliest = sums.iter().position(|sum| sum == most).unwrap();
+        let sums = sums(&ends, |v| count_at(&ends, v));
+        let earliest = earliest_of_the_largest(&sums);
+        let most = sums[earliest];
+        assert!(sums.iter().filter(|sum| **sum == most).count() > 1);
         assert_eq!(first_split(&plan(&ends)), earliest as u32, "{ends:?}");
         places.push(earliest);
     }
@@ -183,7 +194,7 @@ fn values_play_no_part() {
 #[test]
 fn every_open_split() {
     let mut random = Random::new(124);
-    let (mut others, mut all) = (0, 0);
+    let (mut at_first, mut all) = (0, 0);
     for i in 0..150 {
         let file = Plan::meshed(&mut random, 8 + i % 25, 24 + i as usize % 41).bytes();
         let work = sat(&file, 1 + random.up_to(300), &NOTHING).work;
@@ -194,11 +205,71 @@ fn every_open_split() {
         let chosen = places_chosen(&file, &begun);
         for (place, [first, largest]) in begun.places.iter().zip(chosen) {
             assert_eq!(*place, largest);
-            others += usize::from(first != largest);
+            at_first += usize::from(*place == first);
             all += 1;
         }
     }
-    assert!(others > 700 && all > others, "{others} of {all}");
+    assert!(all > 1_000 && 4 * at_first < all, "{at_first} of {all}");
+}
+
+/// A ring with a hub joined to all its nodes, and a second hub joined to so many of them.
+fn hubs(spokes: u8, second: u8) -> Vec<[u8; 2]> {
+    let first = (0..spokes).map(|v| [v, spokes]);
+    let second = (0..second).map(|v| [spokes + 1, v]);
+    ring(0, spokes)
+        .into_iter()
+        .chain(first)
+        .chain(second)
+        .collect()
+}
+
+/// By the largest count at an open split: how many there were, at how many another link would be taken with counts in four bits, and
+/// at how many with sums in five.
+type Counts = [[usize; 3]; 32];
+
+fn hold_counts(plan: &Plan, limit: u64, met: &mut Counts) {
+    let file = plan.bytes();
+    let work = sat(&file, limit, &NOTHING).work;
+    sat(&file, 3, &work);
+    if work[2] == 1 {
+        return;
+    }
+    let begun = Begun::of(&work);
+    for (place, ends) in begun.places.iter().zip(ends_left(&file, &begun)) {
+        let count = |v| count_at(&ends, v);
+        let right = sums(&ends, count);
+        let four_bits = sums(&ends, |v| count(v) % 16);
+        let five_bits: Vec<usize> = right.iter().map(|sum| sum % 32).collect();
+        let [right, four, five] =
+            [right, four_bits, five_bits].map(|s| earliest_of_the_largest(&s));
+        assert_eq!(*place, right as u32, "{ends:?}");
+        let met = &mut met[(0..32).map(count).max().unwrap()];
+        met[0] += 1;
+        met[1] += usize::from(four != right);
+        met[2] += usize::from(five != right);
+    }
+}
+
+/// Counts up to 31, of one hub and of two, in any order of the links. Those from 16 to 24 decide: in four bits another link would
+/// have the largest sum. So do sums from 32 on in five bits.
+#[test]
+fn large_counts() {
+    let mut random = Random::new(126);
+    let mut met: Counts = [[0; 3]; 32];
+    let one = (16..=31).map(|spokes| (spokes, 0));
+    let two = (16..=26).flat_map(|spokes| [3, 7, 11].map(|second| (spokes, second)));
+    let large = [(16, 15), (16, 16), (17, 16), (17, 17), (20, 17), (21, 21)];
+    for (spokes, second) in one.chain(two).chain(large) {
+        let mut ends = hubs(spokes, second);
+        let nodes = u16::from(spokes) + 1 + u16::from(second > 0);
+        for limit in [1, 5, 12, 20] {
+            random.shuffle(&mut ends);
+            hold_counts(&Plan::alike(nodes, HALF, &ends), limit, &mut met);
+        }
+    }
+    assert!(met[16..].iter().all(|[all, ..]| *all > 1), "{met:?}");
+    assert!(met[16..25].iter().all(|[_, four, _]| *four > 3), "{met:?}");
+    assert!(met[29..].iter().all(|[.., five]| *five > 1), "{met:?}");
 }
 
 /// Both rules enclose: where both figures are finished, the one's low is not above the other's high.
