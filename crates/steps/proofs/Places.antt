@@ -7,10 +7,10 @@ use mathlib.Core.Logic.{_⊎_, inl, inr}
 use native.Mathlib.Omega.{arith}
 use lib.Dec.{eqb}
 use lib.ListN.{getD, replicate}
-use borrow.Author.Tests.{eq-eqb, ne-eqb}
+use borrow.Author.Tests.{eqb-true, eq-eqb, ne-eqb}
 use Rattle.bits.specs.Members.{members, firstOf, howMany, both}
 use Rattle.bits.proofs.Places.{first-set, count-cleared}
-use Rattle.reliability.proofs.Lists.{by-eqb}
+use Rattle.reliability.proofs.Lists.{by-eqb, or-true}
 use Rattle.search.proofs.Sets.{has, has-place}
 use Rattle.network.specs.declared.Network.{Network}
 use Rattle.network.specs.Places.{rank, Used}
@@ -59,11 +59,14 @@ module _ (alive i : ℕ) (row : List ℕ) (k : ℕ) where
     split-first n = asked ∙ ap (λ (b : Bool). cond b i (firstOf (members alive))) (ne-eqb (getD row (3 * k) 0) (rank i (members alive)) n)
 
     -- it stands at the place of the open split, if that is the chosen place or the first
-    pub split-placed : (getD row (3 * k) 0 ≡ rank i (members alive)) ⊎ (getD row (3 * k) 0 ≡ 0) → rank (splitOn alive i row k left) (members alive) ≡ getD row (3 * k) 0
-    split-placed (inl e) = ap (λ (p : ℕ). rank p (members alive)) (split-same e) ∙ sym e
-    split-placed (inr e) =
-        ap (λ (p : ℕ). rank p (members alive)) asked
-        ∙ by-eqb (λ b. rank (cond b i (firstOf (members alive))) (members alive) ≡ getD row (3 * k) 0) (getD row (3 * k) 0) (rank i (members alive)) sym (λ n. rank-lowest (members alive) ∙ sym e)
+    pub split-placed : (eqb (getD row (3 * k) 0) 0 || eqb (getD row (3 * k) 0) (rank i (members alive))) ≡ true → rank (splitOn alive i row k left) (members alive) ≡ getD row (3 * k) 0
+    split-placed h = go (or-true (eqb (getD row (3 * k) 0) 0) (eqb (getD row (3 * k) 0) (rank i (members alive))) h)
+      where
+        go : (eqb (getD row (3 * k) 0) 0 ≡ true) ⊎ (eqb (getD row (3 * k) 0) (rank i (members alive)) ≡ true) → rank (splitOn alive i row k left) (members alive) ≡ getD row (3 * k) 0
+        go (inr z) = let e = eqb-true (getD row (3 * k) 0) (rank i (members alive)) z in ap (λ (p : ℕ). rank p (members alive)) (split-same e) ∙ sym e
+        go (inl z) =
+            ap (λ (p : ℕ). rank p (members alive)) asked
+            ∙ by-eqb (λ b. rank (cond b i (firstOf (members alive))) (members alive) ≡ getD row (3 * k) 0) (getD row (3 * k) 0) (rank i (members alive)) sym (λ n. rank-lowest (members alive) ∙ sym (eqb-true (getD row (3 * k) 0) 0 z))
 
 -- it is in use
 pub split-used : (n : Network) (i : ℕ) → Used n i → (row : List ℕ) (k left : ℕ) → Used n (splitOn (n .alive) i row k left)

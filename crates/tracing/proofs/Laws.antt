@@ -3,20 +3,19 @@ use Prim.Native.Nat.{ℕ, zero, suc, _+_, _-_, _*_, _≤_, _<_}
 use mathlib.Core.Path.{_≡_, refl, sym, ap, ap₂, _∙_, subst}
 use mathlib.Core.List.{List, [], _∷_}
 use mathlib.Core.Bool.{Bool, true, false, cond, not, _&&_, _||_, or-true as or-right}
-use mathlib.Core.Logic.{inl, inr, ⊎-elim}
 use mathlib.Core.Option.{none}
 use native.Mathlib.Numerals.{add-one}
 use native.Mathlib.Omega.{arith}
 use lib.Dec.{eqb, leb}
 use lib.ListN.{getD}
-use borrow.Author.Tests.{eqb-true, eq-eqb, ne-eqb, le-leb}
+use borrow.Author.Tests.{eq-eqb, ne-eqb, le-leb}
 use Rattle.rounding.specs.declared.Direction.{Direction}
 use Rattle.reliability.specs.declared.Link.{Link}
 use Rattle.reliability.specs.Networks.{piecesOf}
 use Rattle.reliability.specs.Rule.{deleted, Tree, ready, multiplied, fork, taken}
 use Rattle.reliability.specs.Simple.{Simple}
 use Rattle.bits.specs.Members.{members}
-use Rattle.reliability.proofs.Lists.{by-eqb, or-true}
+use Rattle.reliability.proofs.Lists.{by-eqb}
 use Rattle.reliability.proofs.Simple.{connected-pieces-few, deleted-simple}
 use Rattle.network.specs.declared.Network.{Network}
 use Rattle.network.specs.Places.{rank, networkOf, indexOf, Invariant, Sized}
@@ -102,7 +101,7 @@ module _ (alive c : ℕ) (row : List ℕ) (k left : ℕ) (some : 0 < left) where
     where
       go : (b : Bool) → (eqb stored 0 || eqb stored chosenAt) ≡ b → b ≡ false
       go false e = refl
-      go true e = absurd (h (sym (split-placed alive c row k left some (⊎-elim (λ z. inr (eqb-true stored 0 z)) (λ z. inl (eqb-true stored chosenAt z)) (or-true (eqb stored 0) (eqb stored chosenAt) e)))))
+      go true e = absurd (h (sym (split-placed alive c row k left some e)))
 
 -- one is left: none behind it
 pub one-left : (left : ℕ) → (left ≡ 0 → ⊥) → eqb left 1 ≡ eqb (left - 1) 0

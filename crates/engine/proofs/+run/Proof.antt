@@ -2,13 +2,13 @@ use Prim.Native.Nat.{ℕ, suc, _+_, _-_, _*_, _≤_, _<_}
 use mathlib.Core.Path.{_≡_, refl, sym, ap, ap₂, _∙_, subst}
 use mathlib.Core.List.{List}
 use mathlib.Core.Bool.{Bool, true, false, cond, _&&_, true≢false}
-use mathlib.Core.Logic.{inl, inr, ⊎-elim}
+use mathlib.Core.Logic.{inl, inr}
 use native.Mathlib.Numerals.{add-one}
 use native.Mathlib.Omega.{arith}
 use lib.Dec.{eqb}
 use lib.ListN.{length, getD}
 use lib.Seq.{sets}
-use borrow.Author.Tests.{eqb-true, ne-eqb}
+use borrow.Author.Tests.{ne-eqb}
 use Rattle.rounding.specs.Rounding.{S, factor}
 use Rattle.reliability.specs.declared.Link.{Link}
 use Rattle.reliability.specs.declared.Figure.{Figure}
@@ -16,7 +16,7 @@ use Rattle.reliability.specs.declared.Step.the-variants.{End, Series, Split}
 use Rattle.reliability.specs.Networks.{Network as Graph, value}
 use Rattle.reliability.specs.Rule.{Tree, ready, multiplied, fork, tree, more, mixed, deleted, removed, joined, inSeries, contracted, bounded, times}
 use Rattle.reliability.specs.Simple.{Plain}
-use Rattle.reliability.proofs.Lists.{by-eqb, or-true}
+use Rattle.reliability.proofs.Lists.{by-eqb}
 use Rattle.reliability.proofs.Runs.{Ranged}
 use Rattle.reliability.proofs.Unrolled.{Below}
 use Rattle.network.specs.declared.Network.{Network}
@@ -516,7 +516,7 @@ module _ (t : ℕ) (k : Split-known t) where
       by-eqb (λ b. indexOf n place ≡ cond b (indexOf n first) j) (given .args .left) 0
       (λ none. on ∙ ap (indexOf n) (split-fresh (n .alive) first row (given .args .k) (given .args .left) none))
       (λ some. on ∙ split-placed (n .alive) first row (given .args .k) (given .args .left) (omega arith)
-      (⊎-elim (λ z. inr (eqb-true j 0 z)) (λ z. inl (eqb-true j (indexOf n first) z)) (or-true (eqb j 0) (eqb j (indexOf n first)) (open-place split-is row (given .args .k) (given .args .left) (carries t told) some))))
+      (open-place split-is row (given .args .k) (given .args .left) (carries t told) some))
 
   taking : Taking (tree (networkOf n)) (indexOf n place) link (tree sound) (tree broken) (getD (given .args .row .now) (3 * given .args .k) 0) (given .args .left)
   taking = record { chosen = indexOf n first; work = works n (workable t told); is = split-is; at = split-work n (workable t told) first chosen-fits place used; place = stands }
