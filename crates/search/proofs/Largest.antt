@@ -1,8 +1,9 @@
 -- The search for the largest sum, and the counts of the nodes, turn by turn.
-use Prim.Native.Nat.{ℕ, zero, suc, max, _^_, _≤_, _<_}
+use Prim.Native.Nat.{ℕ, zero, suc, _+_, max, _^_, _≤_, _<_}
 use mathlib.Core.Path.{_≡_, refl, sym, ap, ap₂, _∙_}
-use mathlib.Core.List.{List, [], _∷_}
+use mathlib.Core.List.{List, [], _∷_, map}
 use mathlib.Core.Bool.{Bool, true, false, cond, not, _&&_}
+use native.Mathlib.Nat.{zero-add}
 use native.Mathlib.Omega.{arith}
 use lib.Dec.{eqb, leb}
 use lib.ListN.{length, getD, set}
@@ -12,8 +13,8 @@ use Rattle.bits.specs.Members.{digits, members, firstOf, howMany}
 use Rattle.bits.proofs.Digits.{length-digits}
 use Rattle.reliability.proofs.Lists.{by-eqb, filter-here, filter-past}
 use Rattle.search.specs.declared.Found.the-variants.{At}
-use Rattle.search.specs.Searches.{placesIn, filter, found, most, largestIn}
-use Rattle.search.proofs.Sets.{has, has-without}
+use Rattle.search.specs.Searches.{from, placesIn, filter, found, countAt, countsOf, most, largestIn}
+use Rattle.search.proofs.Sets.{has, has-below, has-without}
 use Rattle.search.proofs.Marks.{indices, Lowest, lowest-of, lowest-below, lowest-first, none-listed}
 
 first-none : firstOf (members 0) ≡ 64
@@ -29,6 +30,28 @@ count-most (false ∷ bs) = omega (arith, count-most bs)
 
 pub places-most : (s : ℕ) → howMany (members s) ≤ 64
 places-most s = omega (arith, count-most (members s), length-digits 64 s)
+
+-- a list is given by what stands at its places
+all-places : (f : ℕ → ℕ) (l : List ℕ) (i : ℕ) → ((v : ℕ) → v < length l → getD l v 0 ≡ f (i + v)) → l ≡ map f (from i (length l))
+unfolding from
+all-places f [] i h = refl
+all-places f (x ∷ l) i h = ap₂ (λ (y : ℕ) (m : List ℕ). y ∷ m) (h 0 (omega arith) ∙ ap f (let e : i + 0 ≡ i = omega arith in e))
+    (all-places f l (suc i) (λ v k. h (suc v) (omega arith) ∙ ap f (let e : i + suc v ≡ suc i + v = omega arith in e)))
+
+at-place : (f : ℕ → ℕ) (i k v : ℕ) → v < k → getD (map f (from i k)) v 0 ≡ f (i + v)
+unfolding from
+at-place f i zero v h = absurd (omega arith)
+at-place f i (suc k) zero h = ap f (let e : i ≡ i + 0 = omega arith in e)
+at-place f i (suc k) (suc v) h = at-place f (suc i) k v (omega arith) ∙ ap f (let e : suc i + v ≡ i + suc v = omega arith in e)
+
+-- the count of a node is its number of links
+pub counted : (nodes : ℕ) (at : List ℕ) → nodes < 2 ^ 32 → (v : ℕ) → has nodes v ≡ true → getD (countsOf nodes at) v 0 ≡ howMany (members (getD at v 0))
+counted nodes at h v e =
+    at-place (countAt nodes at) 0 32 v (has-below nodes 32 v h e) ∙ ap (countAt nodes at) (zero-add v) ∙ ap (λ (b : Bool). cond b (howMany (members (getD at v 0))) 0) e
+
+pub all-counted : (nodes : ℕ) (at counts : List ℕ) → length counts ≡ 32 → ((v : ℕ) → v < 32 → getD counts v 0 ≡ countAt nodes at v) → counts ≡ countsOf nodes at
+all-counted nodes at counts e h =
+    all-places (countAt nodes at) counts 0 (λ v k. h v (omega arith) ∙ ap (countAt nodes at) (sym (zero-add v))) ∙ ap (λ (k : ℕ). map (countAt nodes at) (from 0 k)) e
 
 -- a turn: the count of the lowest node k of t is written, and r is the rest of t
 pub count-turn : (counts : List ℕ) (count : ℕ → ℕ) (t k : ℕ) → Lowest t k → (r : ℕ) → members r ≡ set (members t) (firstOf (members t)) false → (v : ℕ)

@@ -1,8 +1,8 @@
 -- Sets of places as lists, the links at their places, and what the searches find.
 use Prim.Native.Nat.{ℕ, zero, suc, _+_, max, _<_}
 use mathlib.Core.Path.{_≡_}
-use mathlib.Core.List.{List, [], _∷_}
-use mathlib.Core.Bool.{Bool, true, false, _&&_, _||_}
+use mathlib.Core.List.{List, [], _∷_, map}
+use mathlib.Core.Bool.{Bool, true, false, cond, _&&_, _||_}
 use lib.Dec.{eqb}
 use lib.ListN.{getD}
 use Rattle.bits.specs.Members.{members, howMany}
@@ -91,9 +91,13 @@ pairIn t (i ∷ is) = elim (filter (t i) is) [ [] ↦ pairIn t is | j ∷ js ↦
 abbrev pub withLinks : ℕ → List ℕ → ℕ → List ℕ
 withLinks d at nodes = filter (λ v. eqb (howMany (members (getD at v 0))) d) (nodesIn nodes)
 
--- counts has the number of links at each node of a set
-abbrev pub Counted : ℕ → List ℕ → List ℕ → Type 0
-Counted nodes at counts = (v : ℕ) → getD (members nodes) v false ≡ true → getD counts v 0 ≡ howMany (members (getD at v 0))
+-- the number of links at v where v is in a set of nodes, else 0
+abbrev pub countAt : ℕ → List ℕ → ℕ → ℕ
+countAt nodes at v = cond (getD (members nodes) v false) (howMany (members (getD at v 0))) 0
+
+-- this number for each v from 0 to 31
+abbrev pub countsOf : ℕ → List ℕ → List ℕ
+countsOf nodes at = map (countAt nodes at) (from 0 32)
 
 -- the counts of the two ends of the link at k, together
 abbrev pub countSum : List ℕ → List ℕ → List ℕ → ℕ → ℕ

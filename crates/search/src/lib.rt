@@ -3,7 +3,7 @@ ghost use mathlib.Core.Path.{_≡_};
 ghost use Prim.Native.Nat.{_+_, _^_, _<_};
 ghost use lib.Dec.{eqb, leb};
 ghost use Rattle.bits.specs.Members.{members, howMany};
-ghost use Rattle.search.specs.Searches.{placesIn, Incidence, Bounded, found, loops, beside, pairIn, withLinks, Counted, countSum, largestIn};
+ghost use Rattle.search.specs.Searches.{placesIn, Incidence, Bounded, found, loops, beside, pairIn, withLinks, countsOf, countSum, largestIn};
 
 pub enum Found {
     At(usize),
@@ -90,10 +90,10 @@ pub fn lowest_with(d: u32, nodes: u64, at: &[u64; 32]) -> Found
     Found::Nothing
 }
 
-// How many links each of the nodes has.
+// How many links each of the nodes has: 0 where a number is no node.
 pub fn counts(nodes: u64, at: &[u64; 32]) -> [u8; 32]
     requires { ⌜ nodes < 2 ^ 32 ⌝ }
-    ensures { λ r. ⌜ Counted nodes (now (at .entry)) r ⌝ }
+    ensures { λ r. ⌜ r ≡ countsOf nodes (now (at .entry)) ⌝ }
 {
     let mut counts = [0u8; 32];
     let mut rest = nodes;

@@ -15,7 +15,7 @@ use Rattle.reliability.specs.Rule.{lowest, endOf, seriesOf, chosen, when, _othe
 use Rattle.reliability.proofs.Steps.{Fits, fits}
 use Rattle.reliability.proofs.Simple.{simple-next}
 use Rattle.search.specs.declared.Found.the-variants.{At}
-use Rattle.search.specs.Searches.{pick, placesIn, touching, found, withLinks, Counted, countSum, largestIn}
+use Rattle.search.specs.Searches.{pick, placesIn, touching, found, withLinks, countsOf, countSum, largestIn}
 use Rattle.search.proofs.Sets.{has, has-place, has-below, mem-has, at-node}
 use Rattle.search.proofs.Marks.{Lowest, length-places, lowest-in, lowest-first, lowest-rest, rest-count, rest-within}
 use Rattle.search.proofs.Answers.{first, hit}
@@ -107,11 +107,12 @@ module _ (n : Network) (work : Workable n) where
             placed = (below, at-used v i below (lowest-in s i l), at-used v j below (rest-within s i l r rest s (λ k e. e) j (lowest-in r j m)));
           }
 
-      pub split-right : withLinks 2 (n .at) (n .nodes) ≡ [] → (counts : List ℕ) → Counted (n .nodes) (n .at) counts
+      pub split-right : withLinks 2 (n .at) (n .nodes) ≡ [] → (counts : List ℕ) → counts ≡ countsOf (n .nodes) (n .at)
           → (k : ℕ) → k ≡ largestIn (countSum counts (n .a) (n .b)) (placesIn (n .alive)) → Fitting n (Split k)
       unfolding ranked
       split-right no-series counts counted k f =
           let e : next (networkOf n) ≡ Split (chosen (networkOf n)) = by-series none (series-rule n sized (n .at) (holds .tallies) ∙ ap (λ (l : List ℕ). Option·map seriesAt (first l)) no-series) in
           let place = subst (Fits (networkOf n)) e (fits (networkOf n) (holds .valid)) .place in
-          let h = largest-right n sized holds counts counted (omega (arith, place, pick-count (members (n .alive)) (allRows n), length-places (n .alive))) in
-          record { by-rule = ap Split (ap (indexOf n) f ∙ sym (h .1)) ∙ sym e; placed = subst (Used n) (sym f) (h .0) }
+          let h = largest-right n sized holds (omega (arith, place, pick-count (members (n .alive)) (allRows n), length-places (n .alive))) in
+          let best = f ∙ ap (λ (c : List ℕ). largestIn (countSum c (n .a) (n .b)) (placesIn (n .alive))) counted in
+          record { by-rule = ap Split (ap (indexOf n) best ∙ sym (h .1)) ∙ sym e; placed = subst (Used n) (sym best) (h .0) }

@@ -12,11 +12,11 @@ use Rattle.bits.proofs.Digits.{length-digits}
 use Rattle.reliability.specs.declared.Link.{Link}
 use Rattle.reliability.specs.Rule.{degree, degreeSum, largest, largestSum}
 use Rattle.reliability.proofs.Searches.{nth}
-use Rattle.search.specs.Searches.{pick, placesIn, filter, Counted, countSum, most, largestIn}
+use Rattle.search.specs.Searches.{pick, placesIn, filter, countsOf, countSum, most, largestIn}
 use Rattle.search.proofs.Sets.{has, has-below, has-place, mem-has}
 use Rattle.search.proofs.Marks.{indices, places-listed}
 use Rattle.search.proofs.Answers.{first, hit}
-use Rattle.search.proofs.Largest.{largest-found}
+use Rattle.search.proofs.Largest.{counted, largest-found}
 use Rattle.network.specs.declared.Network.{Network}
 use Rattle.network.specs.Places.{networkOf, linksOf, indexOf, Used, Invariant, Sized}
 use Rattle.network.proofs.Picks.{rows-at, allRows, rowAt, all-even, length-all}
@@ -51,7 +51,10 @@ filter-same p q (k ∷ ks) h =
 
 -- ---- the chosen link
 
-module _ (n : Network) (sized : Sized n) (holds : Invariant n) (counts : List ℕ) (counted : Counted (n .nodes) (n .at) counts) where
+module _ (n : Network) (sized : Sized n) (holds : Invariant n) where
+  abbrev counts : List ℕ
+  counts = countsOf (n .nodes) (n .at)
+
   abbrev sum : ℕ → ℕ
   sum = countSum counts (n .a) (n .b)
 
@@ -61,7 +64,7 @@ module _ (n : Network) (sized : Sized n) (holds : Invariant n) (counts : List �
   -- the count of a node is its number of links
   degree-counted : (v : ℕ) → has (n .nodes) v ≡ true → degree (linksOf n) v ≡ getD counts v 0
   unfolding degree
-  degree-counted v h = sym (counted v h ∙ tally-counted n sized holds v (has-below (n .nodes) 32 v (sized .nodes) h))
+  degree-counted v h = sym (counted (n .nodes) (n .at) (sized .nodes) v h ∙ tally-counted n sized holds v (has-below (n .nodes) 32 v (sized .nodes) h))
 
   same-sum : (k : ℕ) → List·Memᴰ k (placesIn (n .alive)) → w (rowAt n k) ≡ sum k
   same-sum k m =

@@ -1,26 +1,29 @@
 use Prim.Native.Nat.{ℕ, _^_, _<_}
 use mathlib.Core.Path.{_≡_, sym, ap, _∙_}
-use mathlib.Core.Bool.{true, false, true≢false}
+use mathlib.Core.Bool.{Bool, false, cond}
 use native.Mathlib.Omega.{arith}
-use lib.ListN.{length, getD}
+use lib.ListN.{length, getD, getD-replicate}
 use borrow.Author.Needs.{needs}
 use Rattle.bits.specs.Members.{members, howMany}
 use Rattle.bits.proofs.Operations.{cleared-fits}
+use Rattle.search.specs.Searches.{countAt}
 use Rattle.search.proofs.Sets.{has, has-none, has-below}
-use Rattle.search.proofs.Marks.{Lowest, lowest-of, lowest-in, rest-count}
-use Rattle.search.proofs.Largest.{places-most, count-turn}
+use Rattle.search.proofs.Marks.{Within, Lowest, lowest-of, lowest-in, rest-count, rest-within}
+use Rattle.search.proofs.Largest.{places-most, all-counted, count-turn}
 use Rattle.search.proofs.counts.Statement.{statement}
 use Rattle.search.proofs.counts.Tie as tie
 
--- the nodes that are not left are counted
+-- all but the nodes that are left are counted
 abbrev Inv-loop : tie.InvT-loop
-Inv-loop nodes at counts₀ t₀ counts t = ((v : ℕ) → has nodes v ≡ true → has t v ≡ false → getD counts v 0 ≡ howMany (members (getD at v 0))) × (t < 2 ^ 32) × (length counts ≡ 32)
+Inv-loop nodes at counts₀ t₀ counts t = ((v : ℕ) → v < 32 → has t v ≡ false → getD counts v 0 ≡ countAt nodes at v) × (t < 2 ^ 32) × (length counts ≡ 32) × Within t nodes
 
 abbrev μ-loop : tie.MeasureT-loop
 μ-loop nodes at counts₀ t₀ counts t = howMany (members t)
 
 loop-holds : tie.Need-loop-holds Inv-loop μ-loop
-loop-holds c = (λ v h k. absurd (true≢false (sym h ∙ k)), search needs, search needs)
+loop-holds c =
+    let s = c .args in
+    (λ v h k. getD-replicate 32 v 0 0 h ∙ ap (λ (b : Bool). cond b (howMany (members (getD (s .at .now) v 0))) 0) (sym k), search needs, search needs, λ v e. e)
 
 low : (c : tie.After-lowest Inv-loop μ-loop) → Lowest (c .before .before .loop .rest) (c .lowest .result)
 low c =
@@ -37,15 +40,19 @@ loop-again c =
     let f = c .before .before .before in
     let l = f .before .before in
     let rest = c .without-lowest .ensures in
+    let nodes = l .before .args .nodes in
     let at = l .before .args .at .now in (
-      λ v h k. count-turn (l .loop .counts) (λ w. howMany (members (getD at w 0))) (l .loop .rest) (f .lowest .result) (low f) _ rest v
-          (omega (arith, below f, l .loop .inv .2)) (c .before .count .ensures) (l .loop .inv .0 v h) k,
+      λ v h k. count-turn (l .loop .counts) (countAt nodes at) (l .loop .rest) (f .lowest .result) (low f) _ rest v
+          (omega (arith, below f, l .loop .inv .2)) (c .before .count .ensures ∙ ap (λ (b : Bool). cond b (howMany (members (getD at (f .lowest .result) 0))) 0) (sym (l .loop .inv .3 _ (lowest-in _ _ (low f))))) (l .loop .inv .0 v h) k,
       cleared-fits _ _ _ (search needs) (l .loop .inv .1) rest,
       search (needs, l .loop .inv .2),
+      rest-within _ _ (low f) _ rest nodes (l .loop .inv .3),
     )
 
 returns : tie.Need-returns Inv-loop μ-loop
-returns c = λ v h. c .before .loop .inv .0 v h (ap (λ (s : ℕ). has s v) (let z : c .before .loop .rest ≡ 0 = search needs in z) ∙ has-none v)
+returns c =
+    let l = c .before .loop in
+    all-counted _ (c .before .before .args .at .now) (l .counts) (l .inv .2) (λ v h. l .inv .0 v h (ap (λ (s : ℕ). has s v) (let z : l .rest ≡ 0 = search needs in z) ∙ has-none v))
 
 -- ---- the rest
 
