@@ -16,7 +16,7 @@ use Rattle.reliability.proofs.Steps.{Fits, fits}
 use Rattle.reliability.proofs.Simple.{simple-next}
 use Rattle.search.specs.declared.Found.the-variants.{At}
 use Rattle.search.specs.Searches.{pick, placesIn, touching, found, withLinks, countsOf, countSum, largestIn}
-use Rattle.search.proofs.Sets.{has, has-place, has-below, mem-has, at-node}
+use Rattle.search.proofs.Sets.{has, has-below, mem-has, at-node}
 use Rattle.search.proofs.Marks.{Lowest, length-places, lowest-in, lowest-first, lowest-rest, rest-count, rest-within}
 use Rattle.search.proofs.Answers.{first, hit}
 use Rattle.network.specs.declared.Network.{Network}
@@ -24,6 +24,7 @@ use Rattle.network.specs.Places.{networkOf, linksOf, nodesOf, indexOf, Used, In
 use Rattle.network.proofs.Picks.{allRows}
 use Rattle.steps.specs.Simple.{Workable}
 use Rattle.network.proofs.Rules.{end-rule, series-rule}
+use Rattle.steps.proofs.Places.{place-used}
 use Rattle.steps.proofs.Largest.{largest-right}
 
 pick-count : {A : Type 0} (us : List Bool) (xs : List A) → length (pick us xs) ≤ howMany us
@@ -32,9 +33,6 @@ pick-count [] xs = omega arith
 pick-count (u ∷ us) [] = omega arith
 pick-count (true ∷ us) (x ∷ xs) = omega (arith, pick-count us xs)
 pick-count (false ∷ us) (x ∷ xs) = pick-count us xs
-
-place-used : (n : Network) (k : ℕ) → has (n .alive) k ≡ true → Used n k
-place-used n k e = record { below = has-place (n .alive) k e; used = e }
 
 module _ (n : Network) (work : Workable n) where
   abbrev sized : Sized n

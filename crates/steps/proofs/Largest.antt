@@ -13,7 +13,7 @@ use Rattle.reliability.specs.declared.Link.{Link}
 use Rattle.reliability.specs.Rule.{degree, degreeSum, largest, largestSum}
 use Rattle.reliability.proofs.Searches.{nth}
 use Rattle.search.specs.Searches.{pick, placesIn, filter, countsOf, countSum, most, largestIn}
-use Rattle.search.proofs.Sets.{has, has-below, has-place, mem-has}
+use Rattle.search.proofs.Sets.{has, has-below, mem-has}
 use Rattle.search.proofs.Marks.{indices, places-listed}
 use Rattle.search.proofs.Answers.{first, hit}
 use Rattle.search.proofs.Largest.{counted, largest-found}
@@ -22,6 +22,7 @@ use Rattle.network.specs.Places.{networkOf, linksOf, indexOf, Used, Invariant, 
 use Rattle.network.proofs.Picks.{rows-at, allRows, rowAt, all-even, length-all}
 use Rattle.network.proofs.Ends.{ended}
 use Rattle.network.proofs.Rules.{first-rule, tally-counted}
+use Rattle.steps.proofs.Places.{place-used}
 
 -- ---- the largest of a list
 
@@ -84,9 +85,8 @@ module _ (n : Network) (sized : Sized n) (holds : Invariant n) where
   unfolding largestSum
   largest-right some-place =
       let h = hit (λ k. eqb (sum k) (most sum (placesIn (n .alive)))) (placesIn (n .alive)) best (largest-found sum (placesIn (n .alive)) some-place) in
-      let u = mem-has (n .alive) best (h .member) in
       let alike = filter-same (λ k. eqb (w (rowAt n k)) (largest w (linksOf n))) (λ k. eqb (sum k) (most sum (placesIn (n .alive)))) (placesIn (n .alive)) (λ k m. ap₂ eqb (same-sum k m) top) in (
-        record { below = has-place (n .alive) best u; used = u },
+        place-used n best (mem-has (n .alive) best (h .member)),
         ap (λ (o : Option ℕ). elim o as (λ x. ℕ) [ some i ↦ i | none ↦ 0 ])
             (first-rule n sized (λ e. eqb (w e) (largest w (linksOf n))) ∙ ap (λ (l : List ℕ). Option·map (indexOf n) (first l)) alike ∙ ap (Option·map (indexOf n)) (h .first)),
       )

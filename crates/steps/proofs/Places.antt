@@ -9,9 +9,9 @@ use lib.Dec.{eqb}
 use lib.ListN.{getD, replicate}
 use borrow.Author.Tests.{eq-eqb, ne-eqb}
 use Rattle.bits.specs.Members.{members, firstOf, howMany, both}
-use Rattle.bits.proofs.Digits.{length-digits}
 use Rattle.bits.proofs.Places.{first-set, count-cleared}
 use Rattle.reliability.proofs.Lists.{by-eqb}
+use Rattle.search.proofs.Sets.{has, has-place}
 use Rattle.network.specs.declared.Network.{Network}
 use Rattle.network.specs.Places.{rank, Used}
 use Rattle.steps.specs.Simple.{splitOn}
@@ -37,6 +37,10 @@ unfolding rank
 rank-lowest [] = refl
 rank-lowest (true ∷ us) = refl
 rank-lowest (false ∷ us) = rank-lowest us
+
+-- a place of the set is in use
+pub place-used : (n : Network) (k : ℕ) → has (n .alive) k ≡ true → Used n k
+place-used n k e = record { below = has-place (n .alive) k e; used = e }
 
 -- ---- the link to split on
 
@@ -67,6 +71,4 @@ split-used n i used row k left = go (eqb left 0 || eqb (getD row (3 * k) 0) (ran
   where
     go : (b : Bool) → Used n (cond b i (firstOf (members (n .alive))))
     go true = used
-    go false =
-        let h = first-set (members (n .alive)) (omega (arith, count-cleared (members (n .alive)) i (used .used))) in
-        record { below = omega (arith, h .0, length-digits 64 (n .alive)); used = h .1 }
+    go false = place-used n _ (first-set (members (n .alive)) (omega (arith, count-cleared (members (n .alive)) i (used .used))) .1)

@@ -25,8 +25,7 @@ pub fn place(alive: u64, i: usize) -> u32
     bits::count(bits::meet(alive, bits::full(i as u64)))
 }
 
-// The link to split on: with splits left over, that of the open split at place k of the row, which is the chosen link i or the first one;
-// else the chosen link.
+// The link to split on: the chosen link i; but with open splits left, the first link where the one at place k of the row is not on i.
 pub fn split_on(alive: u64, i: usize, row: &[u32; 192], k: usize, left: usize) -> usize
     requires { ⌜ (i < 64) × (k < 64) ⌝ }
     ensures { λ r. ⌜ r ≡ splitOn alive i (now (row .entry)) k left ⌝ }
