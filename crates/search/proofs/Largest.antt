@@ -84,44 +84,44 @@ module _ (sum : ℕ → ℕ) where
   largest-next k ks false h = ap (λ (l : List ℕ). getD l 0 64) (past k ks h)
 
   -- best has the sum top, the largest so far; ks are left
-  abbrev pub carried : ℕ → ℕ → List ℕ → ℕ
-  carried best top ks = cond (leb (most sum ks) top) best (largestIn sum ks)
+  abbrev pub so-far : ℕ → ℕ → List ℕ → ℕ
+  so-far best top ks = cond (leb (most sum ks) top) best (largestIn sum ks)
 
   module _ (best top k : ℕ) (ks : List ℕ) where
-    opened : (b : Bool) → leb (most sum (k ∷ ks)) top ≡ b → (c : Bool) → leb (most sum ks) (sum k) ≡ c → carried best top (k ∷ ks) ≡ cond b best (cond c k (largestIn sum ks))
+    opened : (b : Bool) → leb (most sum (k ∷ ks)) top ≡ b → (c : Bool) → leb (most sum ks) (sum k) ≡ c → so-far best top (k ∷ ks) ≡ cond b best (cond c k (largestIn sum ks))
     opened b h c l = ap (λ (t : Bool). cond t best (largestIn sum (k ∷ ks))) h ∙ ap (cond b best) (largest-next k ks c l)
 
     -- its sum is larger
-    pub carried-more : top < sum k → {x y : ℕ} → x ≡ k → y ≡ sum k → carried best top (k ∷ ks) ≡ carried x y ks
+    pub so-far-more : top < sum k → {x y : ℕ} → x ≡ k → y ≡ sum k → so-far best top (k ∷ ks) ≡ so-far x y ks
     unfolding most
-    carried-more h e f = opened false (lt-leb (most sum (k ∷ ks)) top (omega arith)) _ refl ∙ ap₂ (λ (x y : ℕ). carried x y ks) (sym e) (sym f)
+    so-far-more h e f = opened false (lt-leb (most sum (k ∷ ks)) top (omega arith)) _ refl ∙ ap₂ (λ (x y : ℕ). so-far x y ks) (sym e) (sym f)
 
     -- its sum is not larger
-    pub carried-on : sum k ≤ top → {x y : ℕ} → x ≡ best → y ≡ top → carried best top (k ∷ ks) ≡ carried x y ks
+    pub so-far-on : sum k ≤ top → {x y : ℕ} → x ≡ best → y ≡ top → so-far best top (k ∷ ks) ≡ so-far x y ks
     unfolding most
-    carried-on h e f = go (leb (most sum ks) top) refl ∙ ap₂ (λ (x y : ℕ). carried x y ks) (sym e) (sym f)
+    so-far-on h e f = go (leb (most sum ks) top) refl ∙ ap₂ (λ (x y : ℕ). so-far x y ks) (sym e) (sym f)
       where
-        go : (b : Bool) → leb (most sum ks) top ≡ b → carried best top (k ∷ ks) ≡ cond b best (largestIn sum ks)
+        go : (b : Bool) → leb (most sum ks) top ≡ b → so-far best top (k ∷ ks) ≡ cond b best (largestIn sum ks)
         go true l = opened true (le-leb (most sum (k ∷ ks)) top (omega (arith, leb-true (most sum ks) top l))) _ refl
         go false l =
             let more = leb-false (most sum ks) top l in
             opened false (lt-leb (most sum (k ∷ ks)) top (omega arith)) false (lt-leb (most sum ks) (sum k) (omega arith))
 
   -- nothing is left
-  pub carried-ends : (best top t : ℕ) → t ≡ 0 → carried best top (placesIn t) ≡ best
+  pub so-far-ends : (best top t : ℕ) → t ≡ 0 → so-far best top (placesIn t) ≡ best
   unfolding most
-  carried-ends best top t e =
-      ap (λ (s : ℕ). carried best top (placesIn s)) e ∙ ap (carried best top) none-listed ∙ ap (λ (b : Bool). cond b best (largestIn sum [])) (le-leb 0 top (omega arith))
+  so-far-ends best top t e =
+      ap (λ (s : ℕ). so-far best top (placesIn s)) e ∙ ap (so-far best top) none-listed ∙ ap (λ (b : Bool). cond b best (largestIn sum [])) (le-leb 0 top (omega arith))
 
   -- the first is the best at the start
-  pub carried-starts : (t : ℕ) → t < 2 ^ 64 → largestIn sum (placesIn t) ≡ carried (firstOf (members t)) 0 (placesIn t)
+  pub so-far-starts : (t : ℕ) → t < 2 ^ 64 → largestIn sum (placesIn t) ≡ so-far (firstOf (members t)) 0 (placesIn t)
   unfolding most filter
-  carried-starts zero h = rw (none-listed, first-none)
-  carried-starts (suc t) h =
+  so-far-starts zero h = rw (none-listed, first-none)
+  so-far-starts (suc t) h =
       let l = lowest-of (suc t) (firstOf (members (suc t))) (omega arith) h refl in
       rw (lowest-first (suc t) (firstOf (members (suc t))) l) (go (firstOf (members (suc t))) (indices (set (members (suc t)) (firstOf (members (suc t))) false)))
     where
-      go : (k : ℕ) (ks : List ℕ) → largestIn sum (k ∷ ks) ≡ carried k 0 (k ∷ ks)
+      go : (k : ℕ) (ks : List ℕ) → largestIn sum (k ∷ ks) ≡ so-far k 0 (k ∷ ks)
       go k ks = by (leb (most sum (k ∷ ks)) 0) refl
         where
           by : (b : Bool) → leb (most sum (k ∷ ks)) 0 ≡ b → largestIn sum (k ∷ ks) ≡ cond b k (largestIn sum (k ∷ ks))
