@@ -59,23 +59,23 @@ module _ (p : Link → Bool) where
       go false t (some i) h = misses-later e es i t h
       go false t none h = tt
 
-module _ (w : Link → ℕ) where
-  above : (es : List Link) (e : Link) → List·Memᴰ e es → w e ≤ largest w es
+module _ {A : Type 0} (w : A → ℕ) where
+  above : (xs : List A) (x : A) → List·Memᴰ x xs → w x ≤ largest w xs
   unfolding largest
-  above (f ∷ es) e (List·Memᴰ·head q) = omega (arith, ap w q)
-  above (f ∷ es) e (List·Memᴰ·tail m) = omega (arith, above es e m)
+  above (y ∷ xs) x (List·Memᴰ·head q) = omega (arith, ap w q)
+  above (y ∷ xs) x (List·Memᴰ·tail m) = omega (arith, above xs x m)
 
-  abbrev Attained : List Link → Type 0
-  Attained es = (e : Link) × List·Memᴰ e es × (w e ≡ largest w es)
+  abbrev pub Attained : List A → Type 0
+  Attained xs = (x : A) × List·Memᴰ x xs × (w x ≡ largest w xs)
 
   -- the largest is attained
-  attained : (e : Link) (es : List Link) → Attained (e ∷ es)
+  pub attained : (x : A) (xs : List A) → Attained (x ∷ xs)
   unfolding largest
-  attained e [] = (e, List·Memᴰ·head refl, omega arith)
-  attained e (f ∷ es) = go (decLe (largest w (f ∷ es)) (w e)) (attained f es)
+  attained x [] = (x, List·Memᴰ·head refl, omega arith)
+  attained x (y ∷ xs) = go (decLe (largest w (y ∷ xs)) (w x)) (attained y xs)
     where
-      go : Dec (largest w (f ∷ es) ≤ w e) → Attained (f ∷ es) → Attained (e ∷ (f ∷ es))
-      go (yes h) a = (e, List·Memᴰ·head refl, omega arith)
+      go : Dec (largest w (y ∷ xs) ≤ w x) → Attained (y ∷ xs) → Attained (x ∷ (y ∷ xs))
+      go (yes h) a = (x, List·Memᴰ·head refl, omega arith)
       go (no h) a = (a .0, List·Memᴰ·tail (a .1), omega (arith, a .2))
 
 -- the link at place i has the largest sum, and every earlier link's is smaller

@@ -94,9 +94,10 @@ degree es v = length (places (touches v) es)
 abbrev pub degreeSum : List Link → Link → ℕ
 degreeSum es e = degree es (e .a) + degree es (e .b)
 
-unfoldable pub largest : (Link → ℕ) → List Link → ℕ
+-- the largest sum in a list
+unfoldable pub largest : {A : Type 0} → (A → ℕ) → List A → ℕ
 largest sum [] = 0
-largest sum (e ∷ es) = max (sum e) (largest sum es)
+largest sum (x ∷ xs) = max (sum x) (largest sum xs)
 
 -- the link whose two ends' link counts have the largest sum; the earliest such link wins
 unfoldable pub largestSum : Network → ℕ

@@ -1,7 +1,7 @@
 -- The search for the largest sum, and the counts of the nodes, turn by turn.
 use Prim.Native.Nat.{ℕ, zero, suc, _+_, max, _^_, _≤_, _<_}
 use mathlib.Core.Path.{_≡_, refl, sym, ap, ap₂, _∙_}
-use mathlib.Core.List.{List, [], _∷_, map}
+use mathlib.Core.List.{List, [], _∷_, map, List·Memᴰ, List·Memᴰ·not-nil}
 use mathlib.Core.Bool.{Bool, true, false, cond, not, _&&_}
 use native.Mathlib.Nat.{zero-add}
 use native.Mathlib.Omega.{arith}
@@ -11,9 +11,10 @@ use lib.Seq.{getD-set-same, getD-set-other}
 use borrow.Author.Tests.{eq-eqb, ne-eqb, le-leb, lt-leb, leb-true, leb-false}
 use Rattle.bits.specs.Members.{digits, members, firstOf, howMany}
 use Rattle.bits.proofs.Digits.{length-digits}
-use Rattle.reliability.proofs.Lists.{by-eqb, filter-here, filter-past}
+use Rattle.reliability.proofs.Lists.{by-eqb, filter-here, filter-past, mem-filter}
+use Rattle.reliability.proofs.LargestSum.{attained}
 use Rattle.search.specs.declared.Found.the-variants.{At}
-use Rattle.search.specs.Searches.{from, placesIn, filter, found, countAt, countsOf, most, largestIn}
+use Rattle.search.specs.Searches.{from, placesIn, filter, found, countAt, countsOf, largest, largestIn}
 use Rattle.search.proofs.Sets.{has, has-below, has-without}
 use Rattle.search.proofs.Marks.{indices, Lowest, lowest-of, lowest-below, lowest-first, none-listed}
 
@@ -66,85 +67,75 @@ count-turn counts count t k l r rest v h {x} is before gone =
 
 module _ (sum : ℕ → ℕ) where
   -- the first of a list is the answer, or one behind it
-  here : (k : ℕ) (ks : List ℕ) → leb (most sum ks) (sum k) ≡ true → filter (λ j. eqb (sum j) (max (sum k) (most sum ks))) (k ∷ ks) ≡ k ∷ filter (λ j. eqb (sum j) (max (sum k) (most sum ks))) ks
+  here : (k : ℕ) (ks : List ℕ) → leb (largest sum ks) (sum k) ≡ true → filter (λ j. eqb (sum j) (max (sum k) (largest sum ks))) (k ∷ ks) ≡ k ∷ filter (λ j. eqb (sum j) (max (sum k) (largest sum ks))) ks
   here k ks h =
-      let top : max (sum k) (most sum ks) ≡ sum k = omega (arith, leb-true (most sum ks) (sum k) h) in
-      filter-here (λ j. eqb (sum j) (max (sum k) (most sum ks))) k ks (eq-eqb (sum k) (max (sum k) (most sum ks)) (sym top))
+      let top : max (sum k) (largest sum ks) ≡ sum k = omega (arith, leb-true (largest sum ks) (sum k) h) in
+      filter-here (λ j. eqb (sum j) (max (sum k) (largest sum ks))) k ks (eq-eqb (sum k) (max (sum k) (largest sum ks)) (sym top))
 
-  past : (k : ℕ) (ks : List ℕ) → leb (most sum ks) (sum k) ≡ false → filter (λ j. eqb (sum j) (max (sum k) (most sum ks))) (k ∷ ks) ≡ filter (λ j. eqb (sum j) (most sum ks)) ks
+  past : (k : ℕ) (ks : List ℕ) → leb (largest sum ks) (sum k) ≡ false → filter (λ j. eqb (sum j) (max (sum k) (largest sum ks))) (k ∷ ks) ≡ filter (λ j. eqb (sum j) (largest sum ks)) ks
   past k ks h =
-      let less = leb-false (most sum ks) (sum k) h in
-      let top : max (sum k) (most sum ks) ≡ most sum ks = omega arith in
-      filter-past (λ j. eqb (sum j) (max (sum k) (most sum ks))) k ks (ne-eqb (sum k) (max (sum k) (most sum ks)) (λ e. omega arith))
+      let less = leb-false (largest sum ks) (sum k) h in
+      let top : max (sum k) (largest sum ks) ≡ largest sum ks = omega arith in
+      filter-past (λ j. eqb (sum j) (max (sum k) (largest sum ks))) k ks (ne-eqb (sum k) (max (sum k) (largest sum ks)) (λ e. omega arith))
       ∙ ap (λ (m : ℕ). filter (λ j. eqb (sum j) m) ks) top
 
-  largest-next : (k : ℕ) (ks : List ℕ) (b : Bool) → leb (most sum ks) (sum k) ≡ b → largestIn sum (k ∷ ks) ≡ cond b k (largestIn sum ks)
-  unfolding most
+  largest-next : (k : ℕ) (ks : List ℕ) (b : Bool) → leb (largest sum ks) (sum k) ≡ b → largestIn sum (k ∷ ks) ≡ cond b k (largestIn sum ks)
+  unfolding largest
   largest-next k ks true h = ap (λ (l : List ℕ). getD l 0 64) (here k ks h)
   largest-next k ks false h = ap (λ (l : List ℕ). getD l 0 64) (past k ks h)
 
   -- best has the sum top, the largest so far; ks are left
-  abbrev pub carried : ℕ → ℕ → List ℕ → ℕ
-  carried best top ks = cond (leb (most sum ks) top) best (largestIn sum ks)
+  abbrev pub so-far : ℕ → ℕ → List ℕ → ℕ
+  so-far best top ks = cond (leb (largest sum ks) top) best (largestIn sum ks)
 
   module _ (best top k : ℕ) (ks : List ℕ) where
-    opened : (b : Bool) → leb (most sum (k ∷ ks)) top ≡ b → (c : Bool) → leb (most sum ks) (sum k) ≡ c → carried best top (k ∷ ks) ≡ cond b best (cond c k (largestIn sum ks))
+    opened : (b : Bool) → leb (largest sum (k ∷ ks)) top ≡ b → (c : Bool) → leb (largest sum ks) (sum k) ≡ c → so-far best top (k ∷ ks) ≡ cond b best (cond c k (largestIn sum ks))
     opened b h c l = ap (λ (t : Bool). cond t best (largestIn sum (k ∷ ks))) h ∙ ap (cond b best) (largest-next k ks c l)
 
     -- its sum is larger
-    pub carried-more : top < sum k → {x y : ℕ} → x ≡ k → y ≡ sum k → carried best top (k ∷ ks) ≡ carried x y ks
-    unfolding most
-    carried-more h e f = opened false (lt-leb (most sum (k ∷ ks)) top (omega arith)) _ refl ∙ ap₂ (λ (x y : ℕ). carried x y ks) (sym e) (sym f)
+    pub so-far-more : top < sum k → {x y : ℕ} → x ≡ k → y ≡ sum k → so-far best top (k ∷ ks) ≡ so-far x y ks
+    unfolding largest
+    so-far-more h e f = opened false (lt-leb (largest sum (k ∷ ks)) top (omega arith)) _ refl ∙ ap₂ (λ (x y : ℕ). so-far x y ks) (sym e) (sym f)
 
     -- its sum is not larger
-    pub carried-on : sum k ≤ top → {x y : ℕ} → x ≡ best → y ≡ top → carried best top (k ∷ ks) ≡ carried x y ks
-    unfolding most
-    carried-on h e f = go (leb (most sum ks) top) refl ∙ ap₂ (λ (x y : ℕ). carried x y ks) (sym e) (sym f)
+    pub so-far-on : sum k ≤ top → {x y : ℕ} → x ≡ best → y ≡ top → so-far best top (k ∷ ks) ≡ so-far x y ks
+    unfolding largest
+    so-far-on h e f = go (leb (largest sum ks) top) refl ∙ ap₂ (λ (x y : ℕ). so-far x y ks) (sym e) (sym f)
       where
-        go : (b : Bool) → leb (most sum ks) top ≡ b → carried best top (k ∷ ks) ≡ cond b best (largestIn sum ks)
-        go true l = opened true (le-leb (most sum (k ∷ ks)) top (omega (arith, leb-true (most sum ks) top l))) _ refl
+        go : (b : Bool) → leb (largest sum ks) top ≡ b → so-far best top (k ∷ ks) ≡ cond b best (largestIn sum ks)
+        go true l = opened true (le-leb (largest sum (k ∷ ks)) top (omega (arith, leb-true (largest sum ks) top l))) _ refl
         go false l =
-            let more = leb-false (most sum ks) top l in
-            opened false (lt-leb (most sum (k ∷ ks)) top (omega arith)) false (lt-leb (most sum ks) (sum k) (omega arith))
+            let more = leb-false (largest sum ks) top l in
+            opened false (lt-leb (largest sum (k ∷ ks)) top (omega arith)) false (lt-leb (largest sum ks) (sum k) (omega arith))
 
   -- nothing is left
-  pub carried-ends : (best top t : ℕ) → t ≡ 0 → carried best top (placesIn t) ≡ best
-  unfolding most
-  carried-ends best top t e =
-      ap (λ (s : ℕ). carried best top (placesIn s)) e ∙ ap (carried best top) none-listed ∙ ap (λ (b : Bool). cond b best (largestIn sum [])) (le-leb 0 top (omega arith))
+  pub so-far-ends : (best top t : ℕ) → t ≡ 0 → so-far best top (placesIn t) ≡ best
+  unfolding largest
+  so-far-ends best top t e =
+      ap (λ (s : ℕ). so-far best top (placesIn s)) e ∙ ap (so-far best top) none-listed ∙ ap (λ (b : Bool). cond b best (largestIn sum [])) (le-leb 0 top (omega arith))
 
   -- the first is the best at the start
-  pub carried-starts : (t : ℕ) → t < 2 ^ 64 → largestIn sum (placesIn t) ≡ carried (firstOf (members t)) 0 (placesIn t)
-  unfolding most filter
-  carried-starts zero h = rw (none-listed, first-none)
-  carried-starts (suc t) h =
+  pub so-far-starts : (t : ℕ) → t < 2 ^ 64 → largestIn sum (placesIn t) ≡ so-far (firstOf (members t)) 0 (placesIn t)
+  unfolding largest filter
+  so-far-starts zero h = rw (none-listed, first-none)
+  so-far-starts (suc t) h =
       let l = lowest-of (suc t) (firstOf (members (suc t))) (omega arith) h refl in
       rw (lowest-first (suc t) (firstOf (members (suc t))) l) (go (firstOf (members (suc t))) (indices (set (members (suc t)) (firstOf (members (suc t))) false)))
     where
-      go : (k : ℕ) (ks : List ℕ) → largestIn sum (k ∷ ks) ≡ carried k 0 (k ∷ ks)
-      go k ks = by (leb (most sum (k ∷ ks)) 0) refl
+      go : (k : ℕ) (ks : List ℕ) → largestIn sum (k ∷ ks) ≡ so-far k 0 (k ∷ ks)
+      go k ks = by (leb (largest sum (k ∷ ks)) 0) refl
         where
-          by : (b : Bool) → leb (most sum (k ∷ ks)) 0 ≡ b → largestIn sum (k ∷ ks) ≡ cond b k (largestIn sum (k ∷ ks))
-          by true e = largest-next k ks true (le-leb (most sum ks) (sum k) (omega (arith, leb-true (most sum (k ∷ ks)) 0 e)))
+          by : (b : Bool) → leb (largest sum (k ∷ ks)) 0 ≡ b → largestIn sum (k ∷ ks) ≡ cond b k (largestIn sum (k ∷ ks))
+          by true e = largest-next k ks true (le-leb (largest sum ks) (sum k) (omega (arith, leb-true (largest sum (k ∷ ks)) 0 e)))
           by false e = refl
 
-  some-largest : (ks : List ℕ) → 0 < length ks → 0 < length (filter (λ j. eqb (sum j) (most sum ks)) ks)
-  unfolding most
-  some-largest [] h = absurd (omega arith)
-  some-largest (k ∷ ks) h = go (leb (most sum ks) (sum k)) refl (some-largest ks)
-    where
-      later : (ks : List ℕ) → sum k < most sum ks → 0 < length ks
-      later [] h = absurd (omega arith)
-      later (j ∷ ks) h = omega arith
-
-      go : (b : Bool) → leb (most sum ks) (sum k) ≡ b → (0 < length ks → 0 < length (filter (λ j. eqb (sum j) (most sum ks)) ks)) → 0 < length (filter (λ j. eqb (sum j) (max (sum k) (most sum ks))) (k ∷ ks))
-      go true e r = rw (here k ks e) (omega arith)
-      go false e r = rw (past k ks e) (r (later ks (leb-false (most sum ks) (sum k) e)))
-
   -- a list that is not empty has one
-  pub largest-found : (ks : List ℕ) → 0 < length ks → found (filter (λ j. eqb (sum j) (most sum ks)) ks) ≡ At (largestIn sum ks)
-  largest-found ks h = go (filter (λ j. eqb (sum j) (most sum ks)) ks) (some-largest ks h)
+  pub largest-found : (ks : List ℕ) → 0 < length ks → found (filter (λ j. eqb (sum j) (largest sum ks)) ks) ≡ At (largestIn sum ks)
+  largest-found [] h = absurd (omega arith)
+  largest-found (k ∷ ks) h =
+      let (j, m, e) = attained sum k ks in
+      go (filter (λ i. eqb (sum i) (largest sum (k ∷ ks))) (k ∷ ks)) (mem-filter (λ i. eqb (sum i) (largest sum (k ∷ ks))) (k ∷ ks) m (eq-eqb (sum j) (largest sum (k ∷ ks)) e))
     where
-      go : (l : List ℕ) → 0 < length l → found l ≡ At (getD l 0 64)
-      go [] h = absurd (omega arith)
-      go (j ∷ l) h = refl
+      go : (l : List ℕ) {j : ℕ} → List·Memᴰ j l → found l ≡ At (getD l 0 64)
+      go [] m = absurd (List·Memᴰ·not-nil m)
+      go (i ∷ l) m = refl

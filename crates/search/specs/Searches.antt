@@ -1,5 +1,5 @@
 -- Sets of places as lists, the links at their places, and what the searches find.
-use Prim.Native.Nat.{ℕ, zero, suc, _+_, max, _<_}
+use Prim.Native.Nat.{ℕ, zero, suc, _+_, _<_}
 use mathlib.Core.Path.{_≡_}
 use mathlib.Core.List.{List, [], _∷_, map}
 use mathlib.Core.Bool.{Bool, true, false, cond, _&&_, _||_}
@@ -8,6 +8,7 @@ use lib.ListN.{getD}
 use Rattle.bits.specs.Members.{members, howMany}
 use Rattle.reliability.specs.Networks.{Ends}
 unfoldable pub use Rattle.reliability.specs.Networks.{filter}
+unfoldable pub use Rattle.reliability.specs.Rule.{largest}
 use Rattle.search.specs.declared.Found.{Found}
 use Rattle.search.specs.declared.Found.the-variants.{At, Nothing}
 use Rattle.search.specs.declared.Pair.{Pair}
@@ -103,10 +104,6 @@ countsOf nodes at = map (countAt nodes at) (from 0 32)
 abbrev pub countSum : List ℕ → List ℕ → List ℕ → ℕ → ℕ
 countSum counts as₁ bs k = getD counts (getD as₁ k 0) 0 + getD counts (getD bs k 0) 0
 
-unfoldable pub most : (ℕ → ℕ) → List ℕ → ℕ
-most sum [] = 0
-most sum (k ∷ ks) = max (sum k) (most sum ks)
-
 -- the first of a list whose sum is the largest: 64 where there is none
 abbrev pub largestIn : (ℕ → ℕ) → List ℕ → ℕ
-largestIn sum ks = getD (filter (λ k. eqb (sum k) (most sum ks)) ks) 0 64
+largestIn sum ks = getD (filter (λ k. eqb (sum k) (largest sum ks)) ks) 0 64

@@ -7,13 +7,13 @@ use borrow.Author.Needs.{needs}
 use Rattle.bits.specs.Members.{members, howMany}
 use Rattle.search.specs.Searches.{placesIn, countSum, largestIn}
 use Rattle.search.proofs.Marks.{Within, Lowest, lowest-of, lowest-in, lowest-below, lowest-rest, rest-count, rest-within}
-use Rattle.search.proofs.Largest.{carried, carried-starts, carried-more, carried-on, carried-ends}
+use Rattle.search.proofs.Largest.{so-far, so-far-starts, so-far-more, so-far-on, so-far-ends}
 use Rattle.search.proofs.largest_sum.Statement.{statement}
 use Rattle.search.proofs.largest_sum.Tie as tie
 
 abbrev Inv-loop : tie.InvT-loop
 Inv-loop alive counts a b best₀ most₀ t₀ best most t =
-    (largestIn (countSum counts a b) (placesIn alive) ≡ carried (countSum counts a b) best most (placesIn t)) × Within t alive × (t < 2 ^ 64)
+    (largestIn (countSum counts a b) (placesIn alive) ≡ so-far (countSum counts a b) best most (placesIn t)) × Within t alive × (t < 2 ^ 64)
 
 abbrev μ-loop : tie.MeasureT-loop
 μ-loop alive counts a b best₀ most₀ t₀ best most t = howMany (members t)
@@ -35,17 +35,17 @@ loop-again c =
     let k = f .lowest2 .result in
     let ks = placesIn (c .without-lowest .result) in
     let added = c .before .before .together .ensures in (
-      l .loop .inv .0 ∙ ap (carried sum (l .loop .best) (l .loop .most)) (lowest-rest _ _ (low f) _ rest)
+      l .loop .inv .0 ∙ ap (so-far sum (l .loop .best) (l .loop .most)) (lowest-rest _ _ (low f) _ rest)
           ∙ ⊎-elim
-          (λ w. carried-more sum (l .loop .best) (l .loop .most) k ks (omega (arith, added, w .0 .taken)) (w .1) (w .2 ∙ added))
-          (λ w. carried-on sum (l .loop .best) (l .loop .most) k ks (omega (arith, added, w .0 .left)) (w .1) (w .2))
+          (λ w. so-far-more sum (l .loop .best) (l .loop .most) k ks (omega (arith, added, w .0 .taken)) (w .1) (w .2 ∙ added))
+          (λ w. so-far-on sum (l .loop .best) (l .loop .most) k ks (omega (arith, added, w .0 .left)) (w .1) (w .2))
           (c .before .if1 .came),
       rest-within _ _ (low f) _ rest _ (l .loop .inv .1),
       search needs,
     )
 
 returns : tie.Need-returns Inv-loop μ-loop
-returns c = let l = c .before .loop in sym (l .inv .0 ∙ carried-ends _ (l .best) (l .most) (l .rest) (search needs))
+returns c = let l = c .before .loop in sym (l .inv .0 ∙ so-far-ends _ (l .best) (l .most) (l .rest) (search needs))
 
 -- ---- the rest
 
@@ -56,7 +56,7 @@ loop-holds : tie.Need-loop-holds Inv-loop μ-loop
 loop-holds c =
     let s = c .before .args in
     let sum = countSum (s .counts .now) (s .a .now) (s .b .now) in
-    (carried-starts sum (s .alive) (search needs) ∙ ap (λ (k : ℕ). carried sum k 0 (placesIn (s .alive))) (sym (c .lowest .ensures)), λ k e. e, search needs)
+    (so-far-starts sum (s .alive) (search needs) ∙ ap (λ (k : ℕ). so-far sum k 0 (placesIn (s .alive))) (sym (c .lowest .ensures)), λ k e. e, search needs)
 
 lowest-requires-2 : tie.Need-lowest-requires-2 Inv-loop μ-loop
 lowest-requires-2 c κs = search needs
