@@ -1,5 +1,5 @@
 -- One law for an answer or a refusal, one for an answer read back.
-use Prim.Native.Nat.{ℕ, suc, _-_, _^_, _≤_, _<_, max}
+use Prim.Native.Nat.{ℕ, suc, _+_, _-_, _*_, _^_, _≤_, _<_, max}
 use mathlib.Core.Path.{_≡_, refl, sym, ap, _∙_, subst}
 use mathlib.Core.List.{List}
 use mathlib.Core.Logic.{_⊎_, inl, inr, _↔_}
@@ -10,17 +10,20 @@ use lib.IntN.{ℤ, pos, negsuc}
 use lib.Signed.{mag}
 use lib.ListN.{length, length-drop}
 use borrow.Author.Tests.{lt-ltb, le-ltb, le-leb, lt-leb, leb-true, leb-false}
+use Rattle.rounding.specs.Rounding.{S}
+use Rattle.rounding.specs.declared.Direction.the-variants.{Down}
 use Rattle.reliability.specs.declared.Figure.{Figure}
 use Rattle.reliability.specs.Networks.{Valid}
-use Rattle.plan.specs.Plans.{WellFormed, planOf}
+use Rattle.reliability.specs.Exact.{exact}
+use Rattle.plan.specs.Plans.{WellFormed, sizeN, sizeM, planOf}
 use Rattle.plan.proofs.Verdicts.{accepted-means}
-use Rattle.plan.proofs.Accepted.{plan-valid}
+use Rattle.plan.proofs.Accepted.{plan-valid, plan-links, plan-nodes}
 use Rattle.refusals.specs.declared.CallCause.{CallCause}
 use Rattle.refusals.specs.declared.CallVerdict.{CallVerdict}
 use Rattle.refusals.specs.declared.CallVerdict.the-variants.{Accepted, Refused}
 use Rattle.refusals.specs.Refusals.{callReturned}
 use Rattle.refusals.proofs.Calls.{call-number-range, zero-accepted}
-use Rattle.answers.specs.Answers.{withFigure, Holds}
+use Rattle.answers.specs.Answers.{withFigure, lowIn, highIn, finishedIn, Holds}
 use Rattle.answers.proofs.Laws.{written}
 use Rattle.desk.specs.Outcomes.{twos, Outcome, unless}
 use Rattle.desk.specs.Answers.{signed, Marked, Full, Refusal}
@@ -53,11 +56,28 @@ valid-of plan w = plan-valid plan (accepted-means plan .1 w)
 
 -- ---- an answer read back
 
+pub mark-true : {x : ℕ} (t : Bool) → x ≡ cond t 1 0 → x ≡ 1 → t ≡ true
+mark-true true e h = refl
+mark-true false e h = absurd (omega arith)
+
 -- a call that returned 0 left its figure's numbers in the buffer
 pub read-back : (f : Figure) (b : List ℕ) {o : Outcome} → Full o b (withFigure f b) ⊎ Refusal o b → o .returned ≡ 0
     → (f .low < 2 ^ 32) × (f .high < 2 ^ 32) × (f .steps < 2 ^ 32) → Holds (o .buffer) f
 read-back f b (inl full) zero h = subst (λ l. Holds l f) (sym (full .written)) (written f b h)
 read-back f b (inr refusal) zero h = absurd (omega (arith, refusal .numbered))
+
+-- what is promised of a plan's figure, of the numbers that the buffer holds
+module _ (plan after : List ℕ) (f : Figure) (holds : Holds after f) where
+  abbrev N : ℕ
+  N = exact Down (planOf plan)
+
+  pub encloses-read : (f .low * S ^ length (planOf plan .links) ≤ S * N) × (S * N ≤ f .high * S ^ length (planOf plan .links))
+      → (lowIn after * S ^ sizeM plan ≤ S * N) × (S * N ≤ highIn after * S ^ sizeM plan)
+  encloses-read h = rw (holds .low, holds .high) (subst (λ (k : ℕ). (f .low * S ^ k ≤ S * N) × (S * N ≤ f .high * S ^ k)) (plan-links plan) h)
+
+  pub width-read : (f .finished ≡ true → f .high ≤ f .low + (2 * length (planOf plan .links) + 4 * length (planOf plan .nodes)))
+      → finishedIn after ≡ 1 → highIn after ≤ lowIn after + (2 * sizeM plan + 4 * sizeN plan)
+  width-read h done = omega (arith, h (mark-true (f .finished) (holds .finished) done), holds, plan-links plan, plan-nodes plan)
 
 pub signed-back : (z : ℤ) → mag z < 2 ^ 31 → signed (twos z) ≡ z
 unfolding signed
@@ -88,7 +108,3 @@ both-finished a b limit = go (leb a limit) (leb b limit) refl refl
     go true true p q = sym (le-leb (max a b) limit (omega (arith, leb-true a limit p, leb-true b limit q)))
     go true false p q = sym (lt-leb (max a b) limit (omega (arith, leb-false b limit q)))
     go false t p q = sym (lt-leb (max a b) limit (omega (arith, leb-false a limit p)))
-
-pub mark-true : {x : ℕ} (t : Bool) → x ≡ cond t 1 0 → x ≡ 1 → t ≡ true
-mark-true true e h = refl
-mark-true false e h = absurd (omega arith)

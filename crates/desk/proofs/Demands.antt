@@ -1,6 +1,6 @@
 -- The three demands on a figure, over what the call returns and the numbers that it leaves in the answer buffer.
 use Prim.Native.Nat.{ℕ, _+_, _*_, _^_, _≤_, min}
-use mathlib.Core.Path.{_≡_, ap, _∙_, subst}
+use mathlib.Core.Path.{_≡_, ap, _∙_}
 use mathlib.Core.List.{List}
 use mathlib.Core.Logic.{_⊎_, _↔_, Iff·trans}
 use mathlib.Core.Bool.{cond}
@@ -15,7 +15,7 @@ use Rattle.reliability.specs.Rule.{figure, needed}
 use Rattle.reliability.proofs.Theorems as rule
 use Rattle.plan.specs.Plans.{WellFormed, sizeN, sizeM, verdict, planOf}
 use Rattle.plan.proofs.Verdicts.{accepted-means, zero-means}
-use Rattle.plan.proofs.Accepted.{plan-equal, plan-links, plan-nodes}
+use Rattle.plan.proofs.Accepted.{plan-equal}
 use Rattle.refusals.specs.declared.CallVerdict.{CallVerdict}
 use Rattle.refusals.specs.declared.CallVerdict.the-variants.{Accepted}
 use Rattle.refusals.specs.Refusals.{callReturned, figureVerdict}
@@ -23,7 +23,7 @@ use Rattle.refusals.proofs.Calls.{figure-means}
 use Rattle.answers.specs.Answers.{withFigure, lowIn, highIn, stepsIn, finishedIn, Holds}
 use Rattle.desk.specs.Outcomes.{Outcome, checkOutcome, figureOutcome}
 use Rattle.desk.specs.Answers.{LiesWithin, Marked, Full, Refusal}
-use Rattle.desk.proofs.Answers.{full-or-refused, returned-of, zero-of, valid-of, read-back, marked, mark-true}
+use Rattle.desk.proofs.Answers.{full-or-refused, returned-of, zero-of, valid-of, read-back, encloses-read, width-read, marked}
 
 -- demand 1: check accepts a plan that meets none of the causes 1 to 6, and no other
 pub check-accepted : (plan : List ℕ) → checkOutcome plan ≡ 0 ↔ WellFormed plan
@@ -91,9 +91,7 @@ module _ (plan : List ℕ) (limit : ℕ) (b : List ℕ) where
 
     -- demand 2: low × S^m ≤ S × N ≤ high × S^m, also when steps run out
     pub figure-encloses : (lowIn after * S ^ m ≤ S * N) × (S * N ≤ highIn after * S ^ m)
-    figure-encloses =
-        rw (figure-numbers .low, figure-numbers .high)
-        (subst (λ (k : ℕ). (f .low * S ^ k ≤ S * N) × (S * N ≤ f .high * S ^ k)) (plan-links plan) (rule.enclosure-of-lows g valid limit))
+    figure-encloses = encloses-read plan after f figure-numbers (rule.enclosure-of-lows g valid limit)
 
     -- from 0 to S, low no higher than high
     pub figure-range : (lowIn after ≤ highIn after) × (highIn after ≤ S)
@@ -109,9 +107,7 @@ module _ (plan : List ℕ) (limit : ℕ) (b : List ℕ) where
 
     -- demand 3: a finished pair is at most 2m + 4n wide, however many splits it took
     pub figure-width : finishedIn after ≡ 1 → highIn after ≤ lowIn after + (2 * m + 4 * n)
-    figure-width done =
-        let w = rule.width-of-equal g valid limit (plan-equal plan) (mark-true (f .finished) (figure-numbers .finished) done) in
-        omega (arith, figure-numbers, plan-links plan, plan-nodes plan)
+    figure-width = width-read plan after f figure-numbers (rule.width-of-equal g valid limit (plan-equal plan))
 
     -- so no plan's 0 to S is finished
     pub figure-narrow : finishedIn after ≡ 1 → highIn after ≤ lowIn after + 256

@@ -11,7 +11,7 @@ use Rattle.reliability.specs.Networks.{Network, Valid}
 use Rattle.reliability.specs.Exact.{exact}
 use Rattle.reliability.specs.Rule.{splits, tree}
 use Rattle.plan.specs.Plans.{WellFormed, sizeN, sizeM, planOf}
-use Rattle.plan.proofs.Accepted.{plan-equal, plan-links, plan-nodes}
+use Rattle.plan.proofs.Accepted.{plan-equal}
 use Rattle.answers.specs.Answers.{lowIn, highIn, stepsIn, finishedIn, Holds}
 use Rattle.answers.proofs.Laws.{written}
 use Rattle.sittings.specs.Sittings.{Open, resumed, Saved, begun, most, sitting}
@@ -22,7 +22,7 @@ use Rattle.sitting_desk.specs.Outcome.{SittingOutcome}
 use Rattle.sitting_desk.specs.Chains.{Lent, Allowed, sat, Earlier}
 use Rattle.sitting_desk.proofs.Demands.{good, earlier-carried}
 use Rattle.desk.specs.Answers.{Marked, LiesWithin}
-use Rattle.desk.proofs.Answers.{valid-of, marked, mark-true}
+use Rattle.desk.proofs.Answers.{valid-of, encloses-read, width-read, marked}
 
 module _ (plan : List ℕ) (well : WellFormed plan) (s : Saved) (e : Earlier plan s) where
   abbrev g : Network
@@ -67,18 +67,14 @@ module _ (plan : List ℕ) (well : WellFormed plan) (s : Saved) (e : Earlier pla
 
     -- demand 2: low × S^m ≤ S × N ≤ high × S^m, also when steps run out
     pub carried-encloses : (lowIn after * S ^ m ≤ S * N) × (S * N ≤ highIn after * S ^ m)
-    carried-encloses =
-        rw (numbers .low, numbers .high)
-        (subst (λ (k : ℕ). (f .low * S ^ k ≤ S * N) × (S * N ≤ f .high * S ^ k)) (plan-links plan) (sitting-enclosure-of-lows g valid s good-work (x .limit)))
+    carried-encloses = encloses-read plan after f numbers (sitting-enclosure-of-lows g valid s good-work (x .limit))
 
     pub carried-range : (lowIn after ≤ highIn after) × (highIn after ≤ S)
     carried-range = omega (arith, numbers, range)
 
     -- demand 3: a finished pair is at most 2m + 4n wide
     pub carried-width : finishedIn after ≡ 1 → highIn after ≤ lowIn after + (2 * m + 4 * n)
-    carried-width done =
-        let w = sitting-width-of-equal g valid s good-work (x .limit) (plan-equal plan) (mark-true (f .finished) (numbers .finished) done) in
-        omega (arith, numbers, plan-links plan, plan-nodes plan)
+    carried-width = width-read plan after f numbers (sitting-width-of-equal g valid s good-work (x .limit) (plan-equal plan))
 
     -- of begun work, with its steps so far and the splits still to take
     module _ (os : List Open) (taken : ℕ) (is : s ≡ begun os taken) where
