@@ -1,19 +1,18 @@
--- The network of an accepted plan is valid, with its low and high values equal.
+-- The network of an accepted plan is valid.
 use Prim.Native.Nat.{ℕ, zero, suc, _+_, _≤_, _<_}
-use mathlib.Core.Path.{_≡_, refl, ap}
+use mathlib.Core.Path.{_≡_, refl, ap, _∙_}
 use mathlib.Core.List.{List, _∷_, List·Memᴰ, List·Memᴰ·head, List·Memᴰ·tail}
 use native.Mathlib.Nat.{zero-add}
 use native.Mathlib.Omega.{arith}
 use native.Mathlib.Decide.{ℕ-discrete}
-use lib.ListN.{length}
+use lib.ListN.{length, length-map}
 use Rattle.reliability.specs.declared.Link.{Link}
 use Rattle.reliability.specs.Networks.{Valid, linked, linkAt}
-use Rattle.reliability.specs.Exact.{Equal}
 use Rattle.plan.specs.declared.Verdict.the-variants.{Accepted}
 use Rattle.plan.specs.Plans.{sizeN, sizeM, firstEnd, secondEnd, verdict, linkIn, planOf}
 use Rattle.search.specs.Searches.{from}
 use Rattle.search.proofs.Sets.{ascending-from}
-use Rattle.plan.proofs.Links.{length-links, link-in, one-value, links-proper}
+use Rattle.plan.proofs.Links.{at-place, links-proper}
 
 pub length-from : (i k : ℕ) → length (from i k) ≡ k
 unfolding from
@@ -33,11 +32,8 @@ module _ (b : List ℕ) where
   pub plan-valid : verdict b ≡ Accepted → Valid (planOf b)
   plan-valid h = record { ascending = ascending-from 0 (sizeN b); proper = links-proper b (from 0 (sizeN b)) (λ v l. within 0 (sizeN b) v (omega arith) (omega arith)) h }
 
-  pub plan-equal : Equal (planOf b)
-  plan-equal e m = one-value b e m
-
   pub plan-links : length (planOf b .links) ≡ sizeM b
-  plan-links = length-links b 0 (sizeM b)
+  plan-links = length-map (from 0 (sizeM b)) (linkIn b) ∙ length-from 0 (sizeM b)
 
   pub plan-nodes : length (planOf b .nodes) ≡ sizeN b
   plan-nodes = length-from 0 (sizeN b)
@@ -46,5 +42,5 @@ module _ (b : List ℕ) where
   pub plan-ends : (i : ℕ) → i < sizeM b → (linkAt (planOf b) i .a ≡ firstEnd b i) × (linkAt (planOf b) i .b ≡ secondEnd b i)
   unfolding linkIn
   plan-ends i h =
-      let e = rw (zero-add i) at (link-in b (linked 0 0 (λ d. 0)) 0 (sizeM b) i h) in
+      let e = rw (zero-add i) at (at-place (linkIn b) (linked 0 0 (λ d. 0)) 0 (sizeM b) i h) in
       (ap (λ (l : Link). l .a) e, ap (λ (l : Link). l .b) e)

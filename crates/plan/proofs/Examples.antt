@@ -7,7 +7,8 @@ use mathlib.Core.Bool.{Bool, true}
 use lib.Dec.{eqb}
 use lib.ListN.{replicate}
 use Rattle.reliability.specs.Networks.{linked, every}
-use Rattle.plan.specs.Plans.{rated, linkVerdict, linksVerdict, verdict, returned, sizeM, linkIn, linksIn}
+use Rattle.plan.specs.Plans.{rated, linkVerdict, linksVerdict, verdict, returned, linkIn, planOf}
+use Rattle.search.specs.Searches.{from}
 
 pub record Row : Type 0 where
   pub bytes : List ℕ
@@ -66,6 +67,6 @@ pub examples : every right rows ≡ true
 unfolding right row loop pair listed rows every verdict linksVerdict linkVerdict rated
 examples = refl
 
-pub listed-links : linksIn listed 0 (sizeM listed) ≡ (linked 0 1 (λ d. 900000000) ∷ linked 0 1 (λ d. 800000000) ∷ [])
-unfolding listed linksIn linkIn rated
+pub listed-links : planOf listed .links ≡ (linked 0 1 (λ d. 900000000) ∷ linked 0 1 (λ d. 800000000) ∷ [])
+unfolding listed from linkIn rated
 listed-links = refl

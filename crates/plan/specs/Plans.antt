@@ -1,13 +1,14 @@
 -- The plan file: what its bytes mean, and why one is refused.
 use Prim.Native.Nat.{ℕ, zero, suc, _+_, _-_, _*_, _≤_, _<_}
 use mathlib.Core.Path.{_≡_}
-use mathlib.Core.List.{List, [], _∷_}
+use mathlib.Core.List.{List, map}
 use mathlib.Core.Bool.{Bool, true, false, not, _&&_, _||_}
 use lib.Dec.{eqb, leb, ltb}
 use lib.ListN.{length}
 pub use Rattle.reader.specs.Layout.{sizeN, sizeM, firstEnd, secondEnd, fileValue}
 use Rattle.rounding.specs.Rounding.{S}
-use Rattle.ratings.specs.Ratings.{T}
+use Rattle.rounding.specs.declared.Direction.{Direction}
+use Rattle.ratings.specs.Ratings.{T, withJoints}
 use Rattle.reliability.specs.declared.Link.{Link}
 use Rattle.reliability.specs.Networks.{Network, linked}
 use Rattle.search.specs.Searches.{from}
@@ -16,14 +17,14 @@ use Rattle.plan.specs.declared.Cause.the-variants.{Short, Nodes, Links, 
 use Rattle.plan.specs.declared.Verdict.{Verdict}
 use Rattle.plan.specs.declared.Verdict.the-variants.{Accepted, Refused}
 use Rattle.plan.specs.declared.Rated.{Rated}
-use Rattle.plan.specs.declared.Rated.the-variants.{Units, Unrated}
+use Rattle.plan.specs.declared.Rated.the-variants.{Units, OfLength, Unrated}
 
 -- ---- what the file's values stand for
 
--- a value up to S is in units; 2,147,483,648 + k, k up to 511, is a length of k hundred metres and stands for T[k]
+-- a value up to S is in units; 2,147,483,648 + k, k up to 511, is a length of k hundred metres
 abbrev pub ratedBy : (inUnits isLength : Bool) → ℕ → Rated
 ratedBy true isLength w = Units w
-ratedBy false true w = Units (T (w - 2147483648))
+ratedBy false true w = OfLength (w - 2147483648)
 ratedBy false false w = Unrated
 
 unfoldable pub rated : ℕ → Rated
@@ -31,11 +32,14 @@ rated w = ratedBy (leb w S) (leb 2147483648 w && leb (w - 2147483648) 511) w
 
 abbrev pub isRated : Rated → Bool
 isRated (Units v) = true
+isRated (OfLength k) = true
 isRated Unrated = false
 
-abbrev pub unitsOf : Rated → ℕ
-unitsOf (Units v) = v
-unitsOf Unrated = 0
+-- in units, rounded: a length stands for a cable of chance T[k] with both its joints
+abbrev pub valueOf : Direction → Rated → ℕ
+valueOf d (Units v) = v
+valueOf d (OfLength k) = withJoints d (T k)
+valueOf d Unrated = 0
 
 -- ---- the causes of refusal, in the order in which they are tested
 
@@ -112,13 +116,8 @@ returned (Refused c) = number c + 256 * namedLink c
 -- ---- the network of an accepted plan
 
 unfoldable pub linkIn : List ℕ → ℕ → Link
-linkIn b i = linked (firstEnd b i) (secondEnd b i) (λ d. unitsOf (rated (fileValue b i)))
+linkIn b i = linked (firstEnd b i) (secondEnd b i) (λ d. valueOf d (rated (fileValue b i)))
 
--- the links from i on, k of them
-unfoldable pub linksIn : List ℕ → ℕ → ℕ → List Link
-linksIn b i zero = []
-linksIn b i (suc k) = linkIn b i ∷ linksIn b (suc i) k
-
--- the network of an accepted plan: the nodes 0 to n - 1, and the links in order
+-- the nodes 0 to n - 1, and the links 0 to m - 1
 abbrev pub planOf : List ℕ → Network
-planOf b = record { nodes = from 0 (sizeN b); links = linksIn b 0 (sizeM b) }
+planOf b = record { nodes = from 0 (sizeN b); links = map (linkIn b) (from 0 (sizeM b)) }

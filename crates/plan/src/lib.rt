@@ -1,10 +1,11 @@
 // The plan file: what its values stand for, the causes of refusal, and the links of an accepted plan.
 use reliability::Link;
+use rounding::Direction;
 ghost use mathlib.Core.Path.{_≡_};
 ghost use Prim.Native.Nat.{_+_, _*_, _<_};
 ghost use lib.ListN.{length};
 ghost use Rattle.reader.specs.Layout.{sizeM};
-ghost use Rattle.plan.specs.Plans.{rated, unitsOf, linkVerdict, linksVerdict, verdict, number, namedLink, returned, linkIn};
+ghost use Rattle.plan.specs.Plans.{rated, valueOf, linkVerdict, linksVerdict, verdict, number, namedLink, returned, linkIn};
 
 // S.
 const UNITS: u32 = 1_000_000_000;
@@ -30,6 +31,7 @@ pub enum Verdict {
 // What a value in the file stands for.
 pub enum Rated {
     Units(u32),
+    OfLength(usize),
     Unrated,
 }
 
@@ -44,17 +46,19 @@ fn stands_for(w: u32) -> Rated
     }
     let k = (w - LENGTHS) as usize;
     if k < 512 {
-        Rated::Units(ratings::rating(k))
+        Rated::OfLength(k)
     } else {
         Rated::Unrated
     }
 }
 
-fn units_of(r: Rated) -> u32
-    ensures { λ v. ⌜ v ≡ unitsOf r ⌝ }
+// What it stands for in units, rounded.
+fn value_of(d: Direction, w: u32) -> u32
+    ensures { λ r. ⌜ r ≡ valueOf d (rated w) ⌝ }
 {
-    match r {
+    match stands_for(w) {
         Rated::Units(v) => v,
+        Rated::OfLength(k) => ratings::with_joints(d, ratings::rating(k)),
         Rated::Unrated => 0,
     }
 }
@@ -71,6 +75,7 @@ fn link_verdict(plan: &[u8], i: usize) -> Verdict
     }
     match stands_for(e.value) {
         Rated::Units(_) => Verdict::Accepted,
+        Rated::OfLength(_) => Verdict::Accepted,
         Rated::Unrated => Verdict::Refused(Cause::Value(i as u16)),
     }
 }
@@ -154,11 +159,10 @@ pub fn link_at(plan: &[u8], i: usize) -> Link
     ensures { λ r. ⌜ r ≡ linkIn (now (plan .entry)) i ⌝ }
 {
     let e = reader::entry_at(plan, i);
-    let value = units_of(stands_for(e.value));
     Link {
         a: e.a,
         b: e.b,
-        low: value,
-        high: value,
+        low: value_of(Direction::Down, e.value),
+        high: value_of(Direction::Up, e.value),
     }
 }

@@ -1,7 +1,9 @@
-// The table T: the chance in units of a link of k hundred metres.
+// The table T: the chance in units of a cable of k hundred metres; and the joints at both its ends.
+use rounding::Direction;
 ghost use mathlib.Core.Path.{_≡_};
 ghost use Prim.Native.Nat.{ℕ, _≤_, _<_};
-ghost use Rattle.ratings.specs.Ratings.{T};
+ghost use Rattle.rounding.specs.Rounding.{S};
+ghost use Rattle.ratings.specs.Ratings.{T, withJoints};
 
 const RATINGS: [u32; 512] = [
     1000000000,
@@ -524,4 +526,15 @@ pub fn rating(k: usize) -> u32
     ensures falls { λ r. ⌜ ((j : ℕ) → j ≤ k → r ≤ T j) ⌝ }
 {
     RATINGS[k]
+}
+
+// J.
+const JOINT: u32 = 999_950_000;
+
+// t * J * J / S², rounded after each joint.
+pub fn with_joints(d: Direction, t: u32) -> u32
+    requires { ⌜ t ≤ S ⌝ }
+    ensures { λ r. ⌜ r ≡ withJoints d t ⌝ }
+{
+    rounding::product(d, rounding::product(d, t, JOINT), JOINT)
 }

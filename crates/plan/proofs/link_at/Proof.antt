@@ -10,15 +10,15 @@ entry-at-requires c κs =
     let start = c .before in
     (start .pre .1, accepted-means (now (start .args .plan)) .0 (start .pre .0) .whole)
 
-stands-for-requires : tie.Need-stands-for-requires
-stands-for-requires c κs = search needs
+value-of-requires : tie.Need-value-of-requires
+value-of-requires c κs = search needs
 
-units-of-requires : tie.Need-units-of-requires
-units-of-requires c κs = search needs
+value-of-requires-2 : tie.Need-value-of-requires-2
+value-of-requires-2 c κs = search needs
 
 returns : tie.Need-returns
 unfolding linkIn
 returns c = cc
 
 pub link-at-spec : {M : Type 1} → statement M
-link-at-spec = tie.close (tie.spec entry-at-requires stands-for-requires units-of-requires returns)
+link-at-spec = tie.close (tie.spec entry-at-requires value-of-requires value-of-requires-2 returns)

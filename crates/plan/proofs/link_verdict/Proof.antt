@@ -42,6 +42,9 @@ enum-told c = search needs
 enum-told-2 : tie.Need-enum-told-2
 enum-told-2 c = search needs
 
+enum-told-3 : tie.Need-enum-told-3
+enum-told-3 c = search needs
+
 cast-t14 : tie.Need-cast-t14
 cast-t14 c = search needs
 
@@ -60,6 +63,9 @@ returns-2 c = by-its-value (c .before .before) (c .enum-told .given .1)
 returns-3 : tie.Need-returns-3
 returns-3 c = by-its-value (c .before .before) (c .enum-told2 .given .1)
 
+returns-4 : tie.Need-returns-4
+returns-4 c = by-its-value (c .before .before) (c .enum-told3 .given .1)
+
 pub link-verdict-spec : {M : Type 1} → statement M
 link-verdict-spec =
     tie.close
@@ -73,6 +79,8 @@ link-verdict-spec =
     stands-for-requires
     enum-told
     enum-told-2
+    enum-told-3
     cast-t14
     returns-2
-    returns-3)
+    returns-3
+    returns-4)

@@ -1,0 +1,50 @@
+use Prim.Native.Nat.{ℕ, _≤_}
+use mathlib.Core.Path.{sym, ap, _∙_, subst}
+use borrow.Author.Needs.{needs}
+use Rattle.rounding.specs.Rounding.{S}
+use Rattle.ratings.specs.Ratings.{withJoints}
+use Rattle.ratings.proofs.Laws.{range}
+use Rattle.plan.specs.Plans.{valueOf}
+use Rattle.plan.proofs.Links.{in-table}
+use Rattle.plan.proofs.value_of.Statement.{statement}
+use Rattle.plan.proofs.value_of.Tie as tie
+
+stands-for-requires : tie.Need-stands-for-requires
+stands-for-requires c κs = search needs
+
+enum-known-v : tie.Need-enum-known-v
+enum-known-v c = search needs
+
+enum-known-k : tie.Need-enum-known-k
+enum-known-k c = search needs
+
+rating-requires : tie.Need-rating-requires
+rating-requires c κs =
+    let s = c .before .before .before in
+    in-table (s .before .args .w) (sym (s .stands-for .ensures) ∙ c .before .k .given .1)
+
+with-joints-requires : tie.Need-with-joints-requires
+with-joints-requires c κs = subst (λ (t : ℕ). t ≤ S) (sym (c .rating .ensures .0)) (range _)
+
+enum-told : tie.Need-enum-told
+enum-told c = search needs
+
+returns : tie.Need-returns
+returns c =
+    let s = c .before .before .before in
+    ap (valueOf (s .before .args .d)) (sym (c .before .v .given .1) ∙ s .stands-for .ensures)
+
+returns-2 : tie.Need-returns-2
+returns-2 c =
+    let k = c .before .before .before in
+    let s = k .before .before in
+    let d = s .before .args .d in
+    c .with-joints .ensures ∙ ap (withJoints d) (c .before .rating .ensures .0) ∙ ap (valueOf d) (sym (k .k .given .1) ∙ s .stands-for .ensures)
+
+returns-3 : tie.Need-returns-3
+returns-3 c =
+    let s = c .before .before in
+    ap (valueOf (s .before .args .d)) (sym (c .enum-told .given .1) ∙ s .stands-for .ensures)
+
+pub value-of-spec : {M : Type 1} → statement M
+value-of-spec = tie.close (tie.spec stands-for-requires enum-known-v enum-known-k rating-requires with-joints-requires enum-told returns returns-2 returns-3)
