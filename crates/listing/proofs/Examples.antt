@@ -8,7 +8,7 @@ use Rattle.reliability.specs.Networks.{merge, label, every, lastOfEach}
 use Rattle.reliability.specs.Rule.{firstAt, places, firstPair, lowest, nextAt, deleteAt, without, leaves, grown, treeOf, run}
 use Rattle.reliability.specs.Comparisons.{soundAt}
 use Rattle.search.specs.Searches.{from}
-use Rattle.plan.specs.Plans.{rated, linkVerdict, linksVerdict, verdict, linkIn, linksIn}
+use Rattle.plan.specs.Plans.{rated, linkVerdict, linksVerdict, verdict, linkIn}
 use Rattle.plan.proofs.Examples.{listed}
 use Rattle.lines.specs.Lines.{text, decimalOf, meant, filled}
 use Rattle.listing.specs.Listings.{linkLines, listing}
@@ -33,5 +33,5 @@ rows =
     ∷ []
 
 pub examples : map (λ (r : Row). listing (r .plan)) rows ≡ map (λ (r : Row). text (r .prints)) rows
-unfolding rows row listed listing linkLines filled meant decimalOf verdict linksVerdict linkVerdict rated linkIn linksIn from soundAt treeOf grown run leaves nextAt without deleteAt lowest firstPair places firstAt lastOfEach every label merge quotient product parallel either series factor split
+unfolding rows row listed listing linkLines filled meant decimalOf verdict linksVerdict linkVerdict rated linkIn from soundAt treeOf grown run leaves nextAt without deleteAt lowest firstPair places firstAt lastOfEach every label merge quotient product parallel either series factor split
 examples = refl

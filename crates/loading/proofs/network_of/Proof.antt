@@ -1,6 +1,6 @@
 use Prim.Native.Nat.{ℕ, zero, suc, _+_, _-_, _≤_, _<_}
 use mathlib.Core.Path.{_≡_, sym, ap, ap₂, _∙_, subst, subst₂}
-use mathlib.Core.List.{List, [], _∷_, _++_, List·Memᴰ, List·Memᴰ·head, List·Memᴰ·tail}
+use mathlib.Core.List.{List, [], _∷_, _++_, map, List·Memᴰ, List·Memᴰ·head, List·Memᴰ·tail}
 use Rattle.reliability.specs.declared.Link.{Link}
 use native.Mathlib.Omega.{arith}
 use native.Mathlib.Decide.{ℕ-discrete}
@@ -9,24 +9,24 @@ use borrow.Author.Needs.{needs}
 use Rattle.search.specs.Searches.{from}
 use Rattle.network.specs.Places.{nodesOf, linksOf, Built, Invariant}
 use Rattle.plan.specs.declared.Verdict.the-variants.{Accepted}
-use Rattle.plan.specs.Plans.{sizeN, sizeM, verdict, linkIn, linksIn, WellFormed}
+use Rattle.plan.specs.Plans.{sizeN, sizeM, verdict, linkIn, WellFormed}
 use Rattle.plan.proofs.Verdicts.{accepted-means}
-use Rattle.plan.proofs.Links.{links-more}
+use Rattle.plan.proofs.Links.{from-more}
 use Rattle.plan.proofs.Accepted.{plan-valid}
 use Rattle.loading.proofs.network_of.Statement.{statement}
 use Rattle.loading.proofs.network_of.Tie as tie
 
 abbrev Inv-loop : tie.InvT-loop
 Inv-loop plan m net₀ i₀ net i =
-    (m ≡ sizeM plan) × (i ≤ m) × Built net i × Invariant net × (nodesOf net ≡ from 0 (sizeN plan)) × (linksOf net ≡ linksIn plan 0 i)
+    (m ≡ sizeM plan) × (i ≤ m) × Built net i × Invariant net × (nodesOf net ≡ from 0 (sizeN plan)) × (linksOf net ≡ map (linkIn plan) (from 0 i))
 
 -- the link at a place is one of the links
-link-mem : (b : List ℕ) (i k j : ℕ) → i ≤ j → j < i + k → List·Memᴰ (linkIn b j) (linksIn b i k)
-unfolding linksIn
+link-mem : (b : List ℕ) (i k j : ℕ) → i ≤ j → j < i + k → List·Memᴰ (linkIn b j) (map (linkIn b) (from i k))
+unfolding from
 link-mem b i zero j h l = absurd (omega arith)
 link-mem b i (suc k) j h l = go (ℕ-discrete j i) (link-mem b (suc i) k j)
   where
-    go : Dec (j ≡ i) → (suc i ≤ j → j < suc i + k → List·Memᴰ (linkIn b j) (linksIn b (suc i) k)) → List·Memᴰ (linkIn b j) (linkIn b i ∷ linksIn b (suc i) k)
+    go : Dec (j ≡ i) → (suc i ≤ j → j < suc i + k → List·Memᴰ (linkIn b j) (map (linkIn b) (from (suc i) k))) → List·Memᴰ (linkIn b j) (linkIn b i ∷ map (linkIn b) (from (suc i) k))
     go (yes e) later = List·Memᴰ·head (ap (linkIn b) e)
     go (no n) later = List·Memᴰ·tail (later (omega arith) (omega arith))
 
@@ -52,7 +52,7 @@ new-requires : tie.Need-new-requires Inv-loop μ-loop
 new-requires c κs = let w = well (c .before .before .before .before) in let e = c .before .before .sizes-of .ensures .0 in omega (arith, w .nodes)
 
 loop-holds : tie.Need-loop-holds Inv-loop μ-loop
-unfolding linksIn
+unfolding from
 loop-holds c =
     let e = c .before .before .before .sizes-of .ensures in
     let n = c .new .ensures in
@@ -84,7 +84,7 @@ loop-again c =
       e .2,
       e .3,
       e .0 ∙ l .4,
-      e .1 ∙ ap₂ (λ (xs : List Link) (x : Link). xs ++ (x ∷ [])) (l .5) (c .before .link-at .ensures) ∙ sym (links-more b (c .before .before .before .loop .i)),
+      e .1 ∙ ap₂ (λ (xs : List Link) (x : Link). xs ++ (x ∷ [])) (l .5) (c .before .link-at .ensures) ∙ sym (from-more (linkIn b) (c .before .before .before .loop .i)),
     )
 
 returns : tie.Need-returns Inv-loop μ-loop
@@ -92,7 +92,7 @@ returns c =
     let l = c .before .loop .inv in
     let b = c .before .before .before .before .before .before .before .args .plan .now in
     let all : c .before .loop .i ≡ sizeM b = omega (arith, l .0) in
-    ((λ j. record { nodes = l .4 j; links = (l .5 ∙ ap (linksIn b 0) all) j }), subst (Built (c .before .loop .net)) all (l .2), l .3)
+    ((λ j. record { nodes = l .4 j; links = (l .5 ∙ ap (λ k. map (linkIn b) (from 0 k)) all) j }), subst (Built (c .before .loop .net)) all (l .2), l .3)
 
 pub network-of-spec : {M : Type 1} → statement M
 network-of-spec =
