@@ -1,7 +1,7 @@
 -- One law for an answer or a refusal, one for an answer read back.
 use Prim.Native.Nat.{ℕ, suc, _+_, _-_, _*_, _^_, _≤_, _<_, max}
 use mathlib.Core.Path.{_≡_, refl, sym, ap, _∙_, subst}
-use mathlib.Core.List.{List}
+use mathlib.Core.List.{List, []}
 use mathlib.Core.Logic.{_⊎_, inl, inr, _↔_}
 use mathlib.Core.Bool.{Bool, true, false, cond, _&&_}
 use native.Mathlib.Omega.{arith}
@@ -11,13 +11,14 @@ use lib.Signed.{mag}
 use lib.ListN.{length, length-drop}
 use borrow.Author.Tests.{lt-ltb, le-ltb, le-leb, lt-leb, leb-true, leb-false}
 use Rattle.rounding.specs.Rounding.{S}
-use Rattle.rounding.specs.declared.Direction.the-variants.{Down}
 use Rattle.reliability.specs.declared.Figure.{Figure}
 use Rattle.reliability.specs.Networks.{Valid}
-use Rattle.reliability.specs.Exact.{exact}
+use Rattle.reliability.specs.Exact.{Weighted, sum, total, altogether}
 use Rattle.plan.specs.Plans.{WellFormed, sizeN, sizeM, planOf}
 use Rattle.plan.proofs.Verdicts.{accepted-means}
+use Rattle.plan.specs.Weights.{weightsOf, exactOf, lengths}
 use Rattle.plan.proofs.Accepted.{plan-valid, plan-links, plan-nodes}
+use Rattle.plan.proofs.Weights.{unitsIn, plan-units, plan-total}
 use Rattle.refusals.specs.declared.CallCause.{CallCause}
 use Rattle.refusals.specs.declared.CallVerdict.{CallVerdict}
 use Rattle.refusals.specs.declared.CallVerdict.the-variants.{Accepted, Refused}
@@ -68,16 +69,17 @@ read-back f b (inr refusal) zero h = absurd (omega (arith, refusal .numbered))
 
 -- what is promised of a plan's figure, of the numbers that the buffer holds
 module _ (plan after : List ℕ) (f : Figure) (holds : Holds after f) where
-  abbrev N : ℕ
-  N = exact Down (planOf plan)
+  abbrev ws : List Weighted
+  ws = weightsOf plan
 
-  pub encloses-read : (f .low * S ^ length (planOf plan .links) ≤ S * N) × (S * N ≤ f .high * S ^ length (planOf plan .links))
-      → (lowIn after * S ^ sizeM plan ≤ S * N) × (S * N ≤ highIn after * S ^ sizeM plan)
-  encloses-read h = rw (holds .low, holds .high) (subst (λ (k : ℕ). (f .low * S ^ k ≤ S * N) × (S * N ≤ f .high * S ^ k)) (plan-links plan) h)
+  pub encloses-read : (f .low * total ws ≤ S * sum (planOf plan .nodes) ws []) × (S * sum (planOf plan .nodes) ws [] ≤ f .high * total ws)
+      → (lowIn after * S ^ (sizeM plan + 2 * lengths plan) ≤ S * exactOf plan) × (S * exactOf plan ≤ highIn after * S ^ (sizeM plan + 2 * lengths plan))
+  unfolding exactOf
+  encloses-read h = rw (holds .low, holds .high, ← plan-total plan) h
 
-  pub width-read : (f .finished ≡ true → f .high ≤ f .low + (2 * length (planOf plan .links) + 4 * length (planOf plan .nodes)))
-      → finishedIn after ≡ 1 → highIn after ≤ lowIn after + (2 * sizeM plan + 4 * sizeN plan)
-  width-read h done = omega (arith, h (mark-true (f .finished) (holds .finished) done), holds, plan-links plan, plan-nodes plan)
+  pub width-read : (f .finished ≡ true → f .high ≤ f .low + (2 * length (planOf plan .links) + 4 * length (planOf plan .nodes) + 2 * altogether (unitsIn plan)))
+      → finishedIn after ≡ 1 → highIn after ≤ lowIn after + (2 * sizeM plan + 4 * sizeN plan + 4 * lengths plan)
+  width-read h done = omega (arith, h (mark-true (f .finished) (holds .finished) done), holds, plan-links plan, plan-nodes plan, plan-units plan)
 
 pub signed-back : (z : ℤ) → mag z < 2 ^ 31 → signed (twos z) ≡ z
 unfolding signed

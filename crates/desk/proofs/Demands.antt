@@ -7,15 +7,14 @@ use mathlib.Core.Bool.{cond}
 use native.Mathlib.Omega.{arith}
 use lib.ListN.{length}
 use Rattle.rounding.specs.Rounding.{S}
-use Rattle.rounding.specs.declared.Direction.the-variants.{Down}
 use Rattle.reliability.specs.declared.Figure.{Figure}
 use Rattle.reliability.specs.Networks.{Network, Valid}
-use Rattle.reliability.specs.Exact.{exact}
 use Rattle.reliability.specs.Rule.{figure, needed}
 use Rattle.reliability.proofs.Theorems as rule
 use Rattle.plan.specs.Plans.{WellFormed, sizeN, sizeM, verdict, planOf}
 use Rattle.plan.proofs.Verdicts.{accepted-means, zero-means}
-use Rattle.plan.proofs.Accepted.{plan-equal}
+use Rattle.plan.specs.Weights.{exactOf, lengths}
+use Rattle.plan.proofs.Weights.{plan-enclosed, plan-lengths}
 use Rattle.refusals.specs.declared.CallVerdict.{CallVerdict}
 use Rattle.refusals.specs.declared.CallVerdict.the-variants.{Accepted}
 use Rattle.refusals.specs.Refusals.{callReturned, figureVerdict}
@@ -72,8 +71,12 @@ module _ (plan : List ℕ) (limit : ℕ) (b : List ℕ) where
     abbrev n : ℕ
     n = sizeN plan
 
+    -- the links given by length
+    abbrev L : ℕ
+    L = lengths plan
+
     abbrev N : ℕ
-    N = exact Down g
+    N = exactOf plan
 
     well : WellFormed plan
     well = figure-accepted .0 zero .2
@@ -89,9 +92,9 @@ module _ (plan : List ℕ) (limit : ℕ) (b : List ℕ) where
     figure-numbers =
         read-back f b figure-full-or-refused zero (omega (arith, range, figure-accepted .0 zero .0, rule.steps-taken g limit))
 
-    -- demand 2: low × S^m ≤ S × N ≤ high × S^m, also when steps run out
-    pub figure-encloses : (lowIn after * S ^ m ≤ S * N) × (S * N ≤ highIn after * S ^ m)
-    figure-encloses = encloses-read plan after f figure-numbers (rule.enclosure-of-lows g valid limit)
+    -- demand 2: low × S^(m+2L) ≤ S × N ≤ high × S^(m+2L), also when steps run out
+    pub figure-encloses : (lowIn after * S ^ (m + 2 * L) ≤ S * N) × (S * N ≤ highIn after * S ^ (m + 2 * L))
+    figure-encloses = encloses-read plan after f figure-numbers (rule.enclosure g valid limit (plan-enclosed plan))
 
     -- from 0 to S, low no higher than high
     pub figure-range : (lowIn after ≤ highIn after) × (highIn after ≤ S)
@@ -105,13 +108,13 @@ module _ (plan : List ℕ) (limit : ℕ) (b : List ℕ) where
     pub figure-marked : Marked (finishedIn after) (needed g) limit
     figure-marked = marked (needed g) limit (figure-numbers .finished ∙ ap (λ t. cond t 1 0) (rule.finished-when g limit))
 
-    -- demand 3: a finished pair is at most 2m + 4n wide, however many splits it took
-    pub figure-width : finishedIn after ≡ 1 → highIn after ≤ lowIn after + (2 * m + 4 * n)
-    figure-width = width-read plan after f figure-numbers (rule.width-of-equal g valid limit (plan-equal plan))
+    -- demand 3: a finished pair is at most 2m + 4n + 4L wide, however many splits it took
+    pub figure-width : finishedIn after ≡ 1 → highIn after ≤ lowIn after + (2 * m + 4 * n + 4 * L)
+    figure-width = width-read plan after f figure-numbers (rule.width g valid limit (plan-enclosed plan))
 
     -- so no plan's 0 to S is finished
-    pub figure-narrow : finishedIn after ≡ 1 → highIn after ≤ lowIn after + 256
-    figure-narrow done = omega (arith, figure-width done, well .nodes, well .links)
+    pub figure-narrow : finishedIn after ≡ 1 → highIn after ≤ lowIn after + 512
+    figure-narrow done = omega (arith, figure-width done, well .nodes, well .links, plan-lengths plan)
 
 -- demand 3: whichever two accepted limits, the second no smaller than the first, the second pair lies within the first
 pub figure-nesting : (plan : List ℕ) (limit larger : ℕ) (b c : List ℕ) → figureOutcome plan limit b .returned ≡ 0 → figureOutcome plan larger c .returned ≡ 0

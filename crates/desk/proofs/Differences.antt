@@ -19,7 +19,9 @@ use Rattle.reliability.proofs.Theorems.{high-range, low-high}
 use Rattle.reliability.proofs.Comparisons as rule
 use Rattle.plan.specs.Plans.{WellFormed, sizeN, sizeM, verdict, planOf}
 use Rattle.plan.proofs.Verdicts.{accepted-means}
-use Rattle.plan.proofs.Accepted.{plan-equal, plan-links, plan-nodes}
+use Rattle.plan.specs.Weights.{exactOf, lengths}
+use Rattle.plan.proofs.Accepted.{plan-links, plan-nodes}
+use Rattle.plan.proofs.Weights.{plan-enclosed, plan-units, plan-total}
 use Rattle.refusals.specs.declared.CallVerdict.{CallVerdict}
 use Rattle.refusals.specs.declared.CallVerdict.the-variants.{Accepted}
 use Rattle.refusals.specs.Refusals.{callReturned, plannedSecond, figureVerdict, differenceVerdict}
@@ -86,9 +88,15 @@ module _ (first second : List ℕ) (limit : ℕ) (b : List ℕ) where
     abbrev high : ℤ
     high = signed (highIn after)
 
-    -- m + m′
-    abbrev links : ℕ
-    links = sizeM first + sizeM second
+    -- N over T is the exact reliability of the first plan, M over U of the second: T is S^(m+2L), U is S^(m′+2L′)
+    abbrev T : ℕ
+    T = S ^ (sizeM first + 2 * lengths first)
+
+    abbrev U : ℕ
+    U = S ^ (sizeM second + 2 * lengths second)
+
+    abbrev exactly : ℤ
+    exactly = exactDifference (exactOf first) T (exactOf second) U
 
     gv : Valid g
     gv = valid-of first (difference-accepted .0 zero .2)
@@ -114,12 +122,11 @@ module _ (first second : List ℕ) (limit : ℕ) (b : List ℕ) where
         let n = read-back bits b difference-full-or-refused zero (twos-range (d .low) (small .0), twos-range (d .high) (small .1), omega arith) in
         record { low = ap signed (n .low) ∙ signed-back (d .low) (small .0); high = ap signed (n .high) ∙ signed-back (d .high) (small .1); steps = n .steps; finished = n .finished }
 
-    -- demand 2: low × S^(m+m′) ≤ S × (A − B) ≤ high × S^(m+m′)
-    pub difference-encloses : ((low *ℤ pos (S ^ links)) ≤ℤ (pos S *ℤ exactDifference g h)) × ((pos S *ℤ exactDifference g h) ≤ℤ (high *ℤ pos (S ^ links)))
+    -- demand 2: low × T × U ≤ S × (N × U − M × T) ≤ high × T × U
+    pub difference-encloses : ((low *ℤ pos (T * U)) ≤ℤ (pos S *ℤ exactly)) × ((pos S *ℤ exactly) ≤ℤ (high *ℤ pos (T * U)))
+    unfolding exactOf
     difference-encloses =
-        rw (difference-numbers .low, difference-numbers .high)
-        (subst (λ (k : ℕ). ((d .low *ℤ pos (S ^ k)) ≤ℤ (pos S *ℤ exactDifference g h)) × ((pos S *ℤ exactDifference g h) ≤ℤ (d .high *ℤ pos (S ^ k))))
-        (ap₂ _+_ (plan-links first) (plan-links second)) (rule.difference-enclosure-of-lows g h gv hv limit))
+        rw (difference-numbers .low, difference-numbers .high, ← plan-total first, ← plan-total second) (rule.difference-enclosure g h gv hv limit (plan-enclosed first) (plan-enclosed second))
 
     -- from −S to S, low no higher than high
     pub difference-range : (negℤ (pos S) ≤ℤ low) × (low ≤ℤ high) × (high ≤ℤ pos S)
@@ -136,11 +143,11 @@ module _ (first second : List ℕ) (limit : ℕ) (b : List ℕ) where
         marked (max (needed g) (needed h)) limit (difference-numbers .finished ∙ ap (λ t. cond t 1 0) both)
 
     -- demand 3, likewise: a finished pair is no wider than its two evaluations' bounds together
-    pub difference-width : finishedIn after ≡ 1 → high ≤ℤ (low +ℤ pos ((2 * sizeM first + 4 * sizeN first) + (2 * sizeM second + 4 * sizeN second)))
+    pub difference-width : finishedIn after ≡ 1 → high ≤ℤ (low +ℤ pos ((2 * sizeM first + 4 * sizeN first + 4 * lengths first) + (2 * sizeM second + 4 * sizeN second + 4 * lengths second)))
     difference-width done =
-        let wide = rule.difference-width-of-equal g h gv hv limit (plan-equal first) (plan-equal second) (mark-true (d .finished) (difference-numbers .finished) done) in
+        let wide = rule.difference-width g h gv hv limit (plan-enclosed first) (plan-enclosed second) (mark-true (d .finished) (difference-numbers .finished) done) in
         rw (difference-numbers .low, difference-numbers .high)
-        (subst (λ (k : ℕ). d .high ≤ℤ (d .low +ℤ pos k)) (omega (arith, plan-links first, plan-nodes first, plan-links second, plan-nodes second)) wide)
+        (subst (λ (k : ℕ). d .high ≤ℤ (d .low +ℤ pos k)) (omega (arith, plan-links first, plan-nodes first, plan-links second, plan-nodes second, plan-units first, plan-units second)) wide)
 
 -- demand 3, likewise: with a larger limit and all else alike the second pair lies within the first
 pub difference-nesting : (first second : List ℕ) (limit larger : ℕ) (b c : List ℕ) → differenceOutcome first second limit b .returned ≡ 0 → differenceOutcome first second larger c .returned ≡ 0

@@ -5,17 +5,16 @@ use mathlib.Core.List.{List}
 use mathlib.Core.Bool.{cond}
 use native.Mathlib.Omega.{arith}
 use Rattle.rounding.specs.Rounding.{S}
-use Rattle.rounding.specs.declared.Direction.the-variants.{Down}
 use Rattle.reliability.specs.declared.Figure.{Figure}
 use Rattle.reliability.specs.Networks.{Network, Valid}
-use Rattle.reliability.specs.Exact.{exact}
 use Rattle.reliability.specs.Rule.{splits, tree}
 use Rattle.plan.specs.Plans.{WellFormed, sizeN, sizeM, planOf}
-use Rattle.plan.proofs.Accepted.{plan-equal}
+use Rattle.plan.specs.Weights.{exactOf, lengths}
+use Rattle.plan.proofs.Weights.{plan-enclosed}
 use Rattle.answers.specs.Answers.{lowIn, highIn, stepsIn, finishedIn, Holds}
 use Rattle.answers.proofs.Laws.{written}
 use Rattle.sittings.specs.Sittings.{Open, resumed, Saved, begun, most, sitting}
-use Rattle.sittings.proofs.GoodSaved.{GoodSaved, sitting-few, sitting-range, sitting-low-high, sitting-enclosure-of-lows, sitting-width-of-equal, sitting-nesting}
+use Rattle.sittings.proofs.GoodSaved.{GoodSaved, sitting-few, sitting-range, sitting-low-high, sitting-enclosure, sitting-width, sitting-nesting}
 use Rattle.sittings.proofs.Totals as totals
 use Rattle.saved.specs.Format.{savedBytes}
 use Rattle.sitting_desk.specs.Outcome.{SittingOutcome}
@@ -50,8 +49,11 @@ module _ (plan : List ℕ) (well : WellFormed plan) (s : Saved) (e : Earlier pla
     abbrev n : ℕ
     n = sizeN plan
 
+    abbrev L : ℕ
+    L = lengths plan
+
     abbrev N : ℕ
-    N = exact Down g
+    N = exactOf plan
 
     -- it is accepted
     pub carried-returned : last .returned ≡ 0
@@ -65,16 +67,16 @@ module _ (plan : List ℕ) (well : WellFormed plan) (s : Saved) (e : Earlier pla
         subst (λ (o : SittingOutcome). Holds (o .answer) f) (sym (earlier-carried plan well s e x a))
         (written f (x .answer) (omega (arith, range, sitting-few g valid s good-work (x .limit))))
 
-    -- demand 2: low × S^m ≤ S × N ≤ high × S^m, also when steps run out
-    pub carried-encloses : (lowIn after * S ^ m ≤ S * N) × (S * N ≤ highIn after * S ^ m)
-    carried-encloses = encloses-read plan after f numbers (sitting-enclosure-of-lows g valid s good-work (x .limit))
+    -- demand 2: low × S^(m+2L) ≤ S × N ≤ high × S^(m+2L), also when steps run out
+    pub carried-encloses : (lowIn after * S ^ (m + 2 * L) ≤ S * N) × (S * N ≤ highIn after * S ^ (m + 2 * L))
+    carried-encloses = encloses-read plan after f numbers (sitting-enclosure g valid s good-work (x .limit) (plan-enclosed plan))
 
     pub carried-range : (lowIn after ≤ highIn after) × (highIn after ≤ S)
     carried-range = omega (arith, numbers, range)
 
-    -- demand 3: a finished pair is at most 2m + 4n wide
-    pub carried-width : finishedIn after ≡ 1 → highIn after ≤ lowIn after + (2 * m + 4 * n)
-    carried-width = width-read plan after f numbers (sitting-width-of-equal g valid s good-work (x .limit) (plan-equal plan))
+    -- demand 3: a finished pair is at most 2m + 4n + 4L wide
+    pub carried-width : finishedIn after ≡ 1 → highIn after ≤ lowIn after + (2 * m + 4 * n + 4 * L)
+    carried-width = width-read plan after f numbers (sitting-width g valid s good-work (x .limit) (plan-enclosed plan))
 
     -- of begun work, with its steps so far and the splits still to take
     module _ (os : List Open) (taken : ℕ) (is : s ≡ begun os taken) where

@@ -15,7 +15,9 @@ use Rattle.reliability.specs.Comparisons.{soundAt, soundCount, brokenAt, import
 use Rattle.reliability.proofs.Comparisons as rule
 use Rattle.reader.specs.Layout.{sizeN, sizeM, firstEnd, secondEnd}
 use Rattle.plan.specs.Plans.{WellFormed, planOf}
-use Rattle.plan.proofs.Accepted.{plan-equal, plan-links, plan-nodes, plan-ends}
+use Rattle.plan.specs.Weights.{weightsOf, otherLengths}
+use Rattle.plan.proofs.Accepted.{plan-links, plan-nodes, plan-ends}
+use Rattle.plan.proofs.Weights.{plan-enclosed, others-units, others-total}
 use Rattle.refusals.specs.declared.CallVerdict.{CallVerdict}
 use Rattle.refusals.specs.declared.CallVerdict.the-variants.{Accepted}
 use Rattle.refusals.specs.Refusals.{callReturned, placed, figureVerdict, importanceVerdict}
@@ -78,8 +80,12 @@ module _ (plan : List ℕ) (place limit : ℕ) (b : List ℕ) where
     abbrev broken : Network
     broken = brokenAt place g
 
+    -- the other links given by length
+    abbrev L : ℕ
+    L = otherLengths plan place
+
     abbrev exactly : ℕ
-    exactly = exactImportance g place
+    exactly = exactImportance g (weightsOf plan) place
 
     valid : Valid g
     valid = valid-of plan (importance-accepted .0 zero .2)
@@ -95,12 +101,10 @@ module _ (plan : List ℕ) (place limit : ℕ) (b : List ℕ) where
     importance-numbers =
         read-back f b importance-full-or-refused zero (omega (arith, range, importance-accepted .0 zero .0, rule.importance-steps g valid place present limit))
 
-    -- demand 2: low × S^(m−1) ≤ S × (sound − broken) ≤ high × S^(m−1)
-    pub importance-encloses : (lowIn after * S ^ fewer ≤ S * exactly) × (S * exactly ≤ highIn after * S ^ fewer)
+    -- demand 2: low × S^(m−1+2L) ≤ S × (sound − broken) ≤ high × S^(m−1+2L)
+    pub importance-encloses : (lowIn after * S ^ (fewer + 2 * L) ≤ S * exactly) × (S * exactly ≤ highIn after * S ^ (fewer + 2 * L))
     importance-encloses =
-        rw (importance-numbers .low, importance-numbers .high)
-        (subst (λ (k : ℕ). (f .low * S ^ (k - 1) ≤ S * exactly) × (S * exactly ≤ f .high * S ^ (k - 1))) (plan-links plan)
-        (rule.importance-enclosure-of-lows g valid place present limit))
+        rw (importance-numbers .low, importance-numbers .high, ← others-total plan place (importance-accepted .0 zero .3)) (rule.importance-enclosure g valid place present limit (plan-enclosed plan))
 
     -- from 0 to S, low no higher than high
     pub importance-range : (lowIn after ≤ highIn after) × (highIn after ≤ S)
@@ -120,14 +124,14 @@ module _ (plan : List ℕ) (place limit : ℕ) (b : List ℕ) where
     abbrev kept : ℕ
     kept = cond (eqb (firstEnd plan place) (secondEnd plan place)) (sizeN plan) (sizeN plan - 1)
 
-    -- demand 3, likewise: a finished pair is no wider than its two evaluations' bounds together, each of m - 1 links
+    -- demand 3, likewise: a finished pair is no wider than its two evaluations' bounds together, each of m - 1 links, L of them given by length
     pub importance-width : finishedIn after ≡ 1
-        → highIn after ≤ lowIn after + ((2 * fewer + 4 * kept) + (2 * fewer + 4 * sizeN plan))
+        → highIn after ≤ lowIn after + ((2 * fewer + 4 * kept + 4 * L) + (2 * fewer + 4 * sizeN plan + 4 * L))
     importance-width done =
-        let w = rule.importance-width-of-equal g valid place present limit (plan-equal plan) (mark-true (f .finished) (importance-numbers .finished) done) in
+        let w = rule.importance-width g valid place present limit (plan-enclosed plan) (mark-true (f .finished) (importance-numbers .finished) done) in
         let ends = plan-ends plan place (importance-accepted .0 zero .3) in
         let count : soundCount g place ≡ kept = rw (ends .0, ends .1, plan-nodes plan) in
-        omega (arith, importance-numbers, plan-links plan, plan-nodes plan)
+        omega (arith, importance-numbers, plan-links plan, plan-nodes plan, others-units plan place)
 
 -- demand 3, likewise: with a larger limit and all else alike the second pair lies within the first
 pub importance-nesting : (plan : List ℕ) (place limit larger : ℕ) (b c : List ℕ) → importanceOutcome plan place limit b .returned ≡ 0 → importanceOutcome plan place larger c .returned ≡ 0

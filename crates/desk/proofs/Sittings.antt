@@ -5,10 +5,10 @@ use mathlib.Core.List.{List}
 use native.Mathlib.Omega.{arith}
 use lib.ListN.{length}
 use Rattle.rounding.specs.Rounding.{S}
-use Rattle.rounding.specs.declared.Direction.the-variants.{Down}
-use Rattle.reliability.specs.Exact.{exact, altogether}
+use Rattle.reliability.specs.Exact.{altogether}
 use Rattle.reliability.specs.Rule.{figure, needed}
 use Rattle.plan.specs.Plans.{WellFormed, sizeN, sizeM, planOf}
+use Rattle.plan.specs.Weights.{exactOf, lengths}
 use Rattle.refusals.specs.Refusals.{figureVerdict}
 use Rattle.answers.specs.Answers.{withFigure, lowIn, highIn, stepsIn, finishedIn}
 use Rattle.sittings.specs.Sittings.{nothing}
@@ -55,8 +55,11 @@ module _ (plan : List ℕ) (well : WellFormed plan) where
     abbrev n : ℕ
     n = sizeN plan
 
+    abbrev L : ℕ
+    L = lengths plan
+
     abbrev N : ℕ
-    N = exact Down (planOf plan)
+    N = exactOf plan
 
     few : total ≤ 1000000
     few = omega arith
@@ -73,9 +76,9 @@ module _ (plan : List ℕ) (well : WellFormed plan) where
     of-figure : (P : List ℕ → Type 0) → P (figureOutcome plan total (x .answer) .buffer) → P after
     of-figure P = subst P (sym (sittings-as-figure .1))
 
-    -- demand 2: low × S^m ≤ S × N ≤ high × S^m, also when steps run out
-    pub sitting-encloses : (lowIn after * S ^ m ≤ S * N) × (S * N ≤ highIn after * S ^ m)
-    sitting-encloses = of-figure (λ b. (lowIn b * S ^ m ≤ S * N) × (S * N ≤ highIn b * S ^ m)) (figure-encloses plan total (x .answer) zero)
+    -- demand 2: low × S^(m+2L) ≤ S × N ≤ high × S^(m+2L), also when steps run out
+    pub sitting-encloses : (lowIn after * S ^ (m + 2 * L) ≤ S * N) × (S * N ≤ highIn after * S ^ (m + 2 * L))
+    sitting-encloses = of-figure (λ b. (lowIn b * S ^ (m + 2 * L) ≤ S * N) × (S * N ≤ highIn b * S ^ (m + 2 * L))) (figure-encloses plan total (x .answer) zero)
 
     -- demand 3: the step count equals the smaller of the splits needed and the total
     pub sitting-steps : stepsIn after ≡ min (needed (planOf plan)) total
@@ -85,9 +88,9 @@ module _ (plan : List ℕ) (well : WellFormed plan) where
     pub sitting-marked : Marked (finishedIn after) (needed (planOf plan)) total
     sitting-marked = of-figure (λ b. Marked (finishedIn b) (needed (planOf plan)) total) (figure-marked plan total (x .answer) zero)
 
-    -- demand 3: a finished pair is at most 2m + 4n wide, however many splits and sittings it took
-    pub sitting-width : finishedIn after ≡ 1 → highIn after ≤ lowIn after + (2 * m + 4 * n)
-    sitting-width = of-figure (λ b. finishedIn b ≡ 1 → highIn b ≤ lowIn b + (2 * m + 4 * n)) (figure-width plan total (x .answer) zero)
+    -- demand 3: a finished pair is at most 2m + 4n + 4L wide, however many splits and sittings it took
+    pub sitting-width : finishedIn after ≡ 1 → highIn after ≤ lowIn after + (2 * m + 4 * n + 4 * L)
+    sitting-width = of-figure (λ b. finishedIn b ≡ 1 → highIn b ≤ lowIn b + (2 * m + 4 * n + 4 * L)) (figure-width plan total (x .answer) zero)
 
     pub sitting-range : (lowIn after ≤ highIn after) × (highIn after ≤ S)
     sitting-range = of-figure (λ b. (lowIn b ≤ highIn b) × (highIn b ≤ S)) (figure-range plan total (x .answer) zero)

@@ -14,12 +14,13 @@ use Rattle.reliability.specs.Networks.{Network, linkAt, piecesOf}
 use Rattle.reliability.specs.Rule.{isLoop, bounded, figure}
 use Rattle.reliability.specs.Comparisons.{importance}
 use Rattle.reliability.proofs.Separate.{separate-figure}
-use Rattle.reliability.proofs.Comparisons.{importance-width-of-equal}
+use Rattle.reliability.proofs.Comparisons.{importance-width}
 use Rattle.plan.specs.declared.Cause.the-variants.{Short, Nodes, Links, Length}
 use Rattle.plan.specs.declared.Verdict.{Verdict}
 use Rattle.plan.specs.declared.Verdict.the-variants.{Accepted, Refused}
 use Rattle.plan.specs.Plans.{sizeN, sizeM, refusedIf, linksVerdict, verdict, planOf}
-use Rattle.plan.proofs.Accepted.{plan-valid, plan-equal, plan-links, plan-nodes}
+use Rattle.plan.proofs.Accepted.{plan-valid, plan-links, plan-nodes}
+use Rattle.plan.proofs.Weights.{plan-enclosed, others-units, others-few}
 use Rattle.listing.specs.Listings.{figureLimit, importanceLimit, listingBy, listing, importanceWidth}
 
 -- ---- an input longer than any plan
@@ -91,8 +92,8 @@ module _ (plan : List ℕ) (accepted : verdict plan ≡ Accepted) (i : ℕ) (pla
   pub listed-importance-width : f .finished ≡ true → f .high ≤ f .low + importanceWidth plan
   listed-importance-width done =
       let present : i < length (g .links) = omega (arith, place, plan-links plan) in
-      let w = importance-width-of-equal g (plan-valid plan accepted) i present importanceLimit (plan-equal plan) done in
-      omega (arith, w, plan-links plan, plan-nodes plan, kept-at-most (isLoop (linkAt g i)) (length (g .nodes)))
+      let w = importance-width g (plan-valid plan accepted) i present importanceLimit (plan-enclosed plan) done in
+      omega (arith, w, plan-links plan, plan-nodes plan, others-units plan i, others-few plan i, kept-at-most (isLoop (linkAt g i)) (length (g .nodes)))
 
 -- ---- several pieces
 

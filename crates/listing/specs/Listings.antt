@@ -8,6 +8,7 @@ use Rattle.reliability.specs.Rule.{figure}
 use Rattle.plan.specs.declared.Verdict.{Verdict}
 use Rattle.plan.specs.declared.Verdict.the-variants.{Accepted, Refused}
 use Rattle.plan.specs.Plans.{sizeN, sizeM, verdict, planOf}
+use Rattle.plan.specs.Weights.{lengths}
 pub use Rattle.listing_lines.specs.Entries.{figureLimit, importanceLimit, sizesLine, figureLine, lineOf, limitsLine, refusedLine}
 
 -- ---- the lines of the links
@@ -30,7 +31,7 @@ listing plan = listingBy (verdict plan) plan
 
 -- no finished importance has its high further above its low than this: both evaluations' bounds, each with all m links and n nodes
 abbrev pub importanceWidth : List ℕ → ℕ
-importanceWidth plan = 4 * sizeM plan + 8 * sizeN plan
+importanceWidth plan = 4 * sizeM plan + 8 * sizeN plan + 8 * lengths plan
 
 -- ---- an input that is read into a buffer
 

@@ -1,9 +1,9 @@
 -- The exact weights of a plan's links: each link's low and high value enclose them, off by less than 2 units where it is given by length.
-use Prim.Native.Nat.{ℕ, zero, suc, _+_, _-_, _*_, _^_, _≤_, _<_}
+use Prim.Native.Nat.{ℕ, zero, suc, _+_, _-_, _*_, _^_, _≤_, _<_, zero-le}
 use mathlib.Core.Path.{_≡_, refl, sym, ap, ap₂, _∙_, subst}
 use mathlib.Core.List.{List, [], _∷_, map}
 use mathlib.Core.Bool.{Bool, true, false, cond}
-use native.Mathlib.Nat.{add-sub-of-le}
+use native.Mathlib.Nat.{add-sub-of-le, le-refl}
 use native.Mathlib.Omega.{arith}
 use lib.Dec.{lit≤, lit<}
 use lib.ListN.{length}
@@ -59,28 +59,50 @@ module _ (x y : ℕ) where
 parts : (w : ℕ) → soundParts (rated w) + (allParts (rated w) - soundParts (rated w)) ≡ S ^ (1 + unitsOff (rated w))
 parts = by-rated (λ r. soundParts r + (allParts r - soundParts r) ≡ S ^ (1 + unitsOff r)) (λ v h. add-sub-of-le h) (λ k h. add-sub-of-le (omega (arith, range k))) refl
 
--- one link more, given by length or not
-one-more : {n : ℕ} (t : Bool) (i : ℕ) (is : List ℕ) → n ≡ 2 * length is → cond t 2 0 + n ≡ 2 * length {A = ℕ} (elim t [ true ↦ i ∷ is | false ↦ is ])
-one-more true i is e = omega arith
-one-more false i is e = omega arith
+-- one link more: one length more where it is given by length
+counted : (t : Bool) (i : ℕ) (is : List ℕ) → length {A = ℕ} (elim t [ true ↦ i ∷ is | false ↦ is ]) ≡ cond t 1 0 + length is
+counted true i is = omega arith
+counted false i is = omega arith
+
+bit : (t : Bool) → (cond t 1 0 ≤ 1) × (cond t 2 0 ≡ 2 * cond t 1 0)
+bit true = omega arith
+bit false = omega arith
 
 module _ (b : List ℕ) where
+  abbrev byLength : ℕ → Bool
+  byLength i = isLength (rated (fileValue b i))
+
   abbrev off : ℕ → ℕ
   off i = unitsOff (rated (fileValue b i))
 
   -- the links at any places
-  pub enclosed-at : (is : List ℕ) → AllEnclosed (map off is) (map (linkIn b) is) (map (weightIn b) is)
+  enclosed-at : (is : List ℕ) → AllEnclosed (map off is) (map (linkIn b) is) (map (weightIn b) is)
   unfolding linkIn weightIn
   enclosed-at [] = nil
   enclosed-at (i ∷ is) = cons (value-fits (firstEnd b i) (secondEnd b i) (fileValue b i)) (enclosed-at is)
 
-  pub units-at : (is : List ℕ) → altogether (map off is) ≡ 2 * lengthsAmong b is
+  one-more : (i : ℕ) (is : List ℕ) → lengthsAmong b (i ∷ is) ≡ cond (byLength i) 1 0 + lengthsAmong b is
+  unfolding lengthsAmong filter
+  one-more i is = counted (byLength i) i (filter byLength is)
+
+  units-at : (is : List ℕ) → altogether (map off is) ≡ 2 * lengthsAmong b is
   unfolding altogether lengthsAmong filter
   units-at [] = refl
-  units-at (i ∷ is) = one-more (isLength (rated (fileValue b i))) i (filter (λ i. isLength (rated (fileValue b i))) is) (units-at is)
+  units-at (i ∷ is) = omega (arith, units-at is, one-more i is, bit (byLength i))
+
+  few-at : (is : List ℕ) → lengthsAmong b is ≤ length is
+  unfolding lengthsAmong filter
+  few-at [] = zero-le
+  few-at (i ∷ is) = omega (arith, few-at is, one-more i is, bit (byLength i))
+
+  fewer-at : (i : ℕ) (is : List ℕ) → lengthsAmong b (deleteAt i is) ≤ lengthsAmong b is
+  unfolding deleteAt
+  fewer-at i [] = le-refl (lengthsAmong b [])
+  fewer-at zero (j ∷ is) = omega (arith, one-more j is)
+  fewer-at (suc i) (j ∷ is) = omega (arith, fewer-at i is, one-more j is, one-more j (deleteAt i is))
 
   -- over S to the power m + 2L
-  pub total-at : (is : List ℕ) → total (map (weightIn b) is) ≡ S ^ (length is + altogether (map off is))
+  total-at : (is : List ℕ) → total (map (weightIn b) is) ≡ S ^ (length is + altogether (map off is))
   unfolding total weightIn altogether
   total-at [] = refl
   total-at (i ∷ is) =
@@ -90,23 +112,37 @@ module _ (b : List ℕ) where
 
 -- the links of a plan: its weights are enclosed, they come to S to the power m + 2L, and its links may be off by 2L units in all
 module _ (b : List ℕ) where
-  pub plan-enclosed : AllEnclosed (map (off b) (from 0 (sizeM b))) (planOf b .links) (weightsOf b)
-  plan-enclosed = enclosed-at b (from 0 (sizeM b))
+  abbrev places : List ℕ
+  places = from 0 (sizeM b)
 
-  pub plan-units : altogether (map (off b) (from 0 (sizeM b))) ≡ 2 * lengths b
-  plan-units = units-at b (from 0 (sizeM b))
+  abbrev pub unitsIn : List ℕ
+  unitsIn = map (off b) places
+
+  pub plan-enclosed : AllEnclosed unitsIn (planOf b .links) (weightsOf b)
+  plan-enclosed = enclosed-at b places
+
+  pub plan-units : altogether unitsIn ≡ 2 * lengths b
+  plan-units = units-at b places
 
   pub plan-total : total (weightsOf b) ≡ S ^ (sizeM b + 2 * lengths b)
-  plan-total = total-at b (from 0 (sizeM b)) ∙ ap₂ (λ m u. S ^ (m + u)) (length-from 0 (sizeM b)) plan-units
+  plan-total = total-at b places ∙ ap₂ (λ m u. S ^ (m + u)) (length-from 0 (sizeM b)) plan-units
+
+  pub plan-lengths : lengths b ≤ sizeM b
+  plan-lengths = omega (arith, few-at b places, length-from 0 (sizeM b))
 
   -- without link i
-  module _ (i : ℕ) (place : i < sizeM b) where
-    pub others-units : altogether (deleteAt i (map (off b) (from 0 (sizeM b)))) ≡ 2 * otherLengths b i
-    others-units = ap altogether (sym (map-delete (off b) i (from 0 (sizeM b)))) ∙ units-at b (deleteAt i (from 0 (sizeM b)))
+  module _ (i : ℕ) where
+    abbrev others : List ℕ
+    others = deleteAt i places
 
-    pub others-total : total (deleteAt i (weightsOf b)) ≡ S ^ (sizeM b - 1 + 2 * otherLengths b i)
-    others-total =
-        let fewer : length (deleteAt i (from 0 (sizeM b))) ≡ sizeM b - 1 = omega (arith, length-delete {i = i} (from 0 (sizeM b)) (omega (arith, length-from 0 (sizeM b))), length-from 0 (sizeM b)) in
-        ap total (sym (map-delete (weightIn b) i (from 0 (sizeM b))))
-        ∙ total-at b (deleteAt i (from 0 (sizeM b)))
-        ∙ ap₂ (λ m u. S ^ (m + u)) fewer (units-at b (deleteAt i (from 0 (sizeM b))))
+    pub others-units : altogether (deleteAt i unitsIn) ≡ 2 * otherLengths b i
+    others-units = ap altogether (sym (map-delete (off b) i places)) ∙ units-at b others
+
+    pub others-few : otherLengths b i ≤ lengths b
+    others-few = fewer-at b i places
+
+    pub others-total : i < sizeM b → total (deleteAt i (weightsOf b)) ≡ S ^ (sizeM b - 1 + 2 * otherLengths b i)
+    others-total place =
+        let size = length-from 0 (sizeM b) in
+        let fewer : length others ≡ sizeM b - 1 = omega (arith, length-delete {i = i} places (omega arith)) in
+        ap total (sym (map-delete (weightIn b) i places)) ∙ total-at b others ∙ ap₂ (λ m u. S ^ (m + u)) fewer (units-at b others)

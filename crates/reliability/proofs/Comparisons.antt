@@ -1,5 +1,5 @@
 -- What is promised of an importance and of a difference: the promises of their two figures, combined.
-use Prim.Native.Nat.{ℕ, _+_, _-_, _*_, _^_, _≤_, _<_, min, max}
+use Prim.Native.Nat.{ℕ, _+_, _-_, _*_, _≤_, _<_, min, max}
 use mathlib.Core.Path.{_≡_, refl, sym, ap, ap₂, _∙_, subst, subst₂}
 use mathlib.Core.List.{List, [], map}
 use mathlib.Core.Bool.{Bool, true, false, cond, _&&_, and-eq-true-iff}
@@ -8,7 +8,6 @@ use native.Mathlib.Omega.{arith}
 use lib.Dec.{leb}
 use lib.ListN.{length, length-map, List·getD-map}
 use lib.IntN.{ℤ, pos, negℤ, _+ℤ_, _-ℤ_, _*ℤ_, *ℤ-comm}
-use lib.Pow.{pow-add}
 use lib.Signed.{_≤ℤ_}
 use borrow.Author.Tests.{eqb-true, eqb-false}
 use Rattle.rounding.specs.Rounding.{S}
@@ -18,17 +17,17 @@ use Rattle.rounding.proofs.Laws.{sub-mul}
 use Rattle.reliability.specs.declared.Link.{Link}
 use Rattle.reliability.specs.declared.Figure.{Figure}
 use Rattle.reliability.specs.Networks.{Network, Valid, ends, value, linked, linkAt}
-use Rattle.reliability.specs.Exact.{Weighted, weighted, sum, total, exact, AllEnclosed, altogether, Equal}
+use Rattle.reliability.specs.Exact.{Weighted, weighted, sum, total, exact, AllEnclosed, altogether}
 use Rattle.reliability.specs.Rule.{isLoop, deleteAt, without, deleted, contracted, renamed, figure, needed, budget}
-use Rattle.reliability.specs.Comparisons.{soundAt, soundCount, brokenAt, importance, soundSum, brokenSum, exactImportance, difference, apart, exactDifference}
-use Rattle.reliability.proofs.Lists.{map-delete, mem-delete, length-delete}
+use Rattle.reliability.specs.Comparisons.{soundAt, soundCount, brokenAt, importance, soundSum, brokenSum, exactImportance, difference, exactDifference}
+use Rattle.reliability.proofs.Lists.{map-delete, length-delete}
 use Rattle.reliability.proofs.States.{moved, front, sum-more, loop-idle, contraction, onto-kept}
 use Rattle.reliability.proofs.Validity.{proper-at, smaller-node, larger-node, larger-smaller, deleted-valid, contracted-valid}
 use Rattle.reliability.proofs.Reductions.{weighted-renamed}
 use Rattle.reliability.proofs.Enclosure.{without-less}
 use Rattle.reliability.proofs.Signed.{minus-order, minus-mul, minus-add}
-use Rattle.reliability.proofs.Weights.{Near, total-pos, all-deleted, all-renamed, total-moved, gaps, no-units}
-use Rattle.reliability.proofs.Theorems.{steps-taken, finished-when, nesting, high-range, low-high, near-exact, width, low-weights, low-total}
+use Rattle.reliability.proofs.Weights.{Near, total-pos, all-deleted, all-renamed, total-moved}
+use Rattle.reliability.proofs.Theorems.{steps-taken, finished-when, nesting, high-range, low-high, near-exact, width, low-weights}
 
 -- ---- a link sound or broken
 
@@ -160,6 +159,9 @@ module _ (g : Network) (valid : Valid g) (i : ℕ) (place : i < length (g .links
       abbrev units : ℕ
       units = altogether (deleteAt i cs)
 
+      abbrev fewer : ℕ
+      fewer = length (g .links) - 1
+
       sound-near : (d : Direction) → Near d (budget (length (s .links)) (length (s .nodes)) + units) others (soundSum g ws i) (figure s limit)
       sound-near d = rw (← sound-total ws, ← sound-sum ws) (near-exact s sound-valid limit (sound-encloses h) d)
 
@@ -167,7 +169,7 @@ module _ (g : Network) (valid : Valid g) (i : ℕ) (place : i < length (g .links
       broken-near = near-exact b broken-valid limit (all-deleted i h)
 
       -- demand 2: sound minus broken
-      pub importance-enclosure : (importance g i limit .low * others ≤ S * (soundSum g ws i - brokenSum g ws i)) × (S * (soundSum g ws i - brokenSum g ws i) ≤ importance g i limit .high * others)
+      pub importance-enclosure : (importance g i limit .low * others ≤ S * exactImportance g ws i) × (S * exactImportance g ws i ≤ importance g i limit .high * others)
       importance-enclosure =
           let f = figure s limit in
           let k = figure b limit in (
@@ -178,14 +180,14 @@ module _ (g : Network) (valid : Valid g) (i : ℕ) (place : i < length (g .links
       broken-below-sound : figure b limit .low ≤ figure s limit .high
       broken-below-sound = le-of-mul-le-mul-right (le-trans (broken-near Down .bounds) (le-trans (mul-le-mul-left S (sound-more ws)) (sound-near Up .bounds))) (total-pos (all-deleted i h))
 
-      -- a finished pair is no wider than its two evaluations' bounds together
+      -- a finished pair is no wider than its two evaluations' bounds together, each of m − 1 links: n nodes with the link broken, n − 1 with it sound where it is no loop
       pub importance-width : importance g i limit .finished ≡ true
-          → importance g i limit .high ≤ importance g i limit .low + ((2 * length (s .links) + 4 * length (s .nodes) + 2 * units) + (2 * length (b .links) + 4 * length (b .nodes) + 2 * units))
+          → importance g i limit .high ≤ importance g i limit .low + ((2 * fewer + 4 * soundCount g i + 2 * units) + (2 * fewer + 4 * length (g .nodes) + 2 * units))
       importance-width done =
           let both = and-eq-true-iff (figure s limit .finished) (figure b limit .finished) .0 done in
           let x = width s sound-valid limit (sound-encloses h) (both .0) in
           let y = width b broken-valid limit (all-deleted i h) (both .1) in
-          omega arith
+          omega (arith, sound-links, broken-links, sound-nodes)
 
     -- so the high is no truncated difference
     pub broken-sound : figure b limit .low ≤ figure s limit .high
@@ -196,23 +198,6 @@ module _ (g : Network) (valid : Valid g) (i : ℕ) (place : i < length (g .links
         let x = low-high s sound-valid limit in
         let y = low-high b broken-valid limit in
         (omega (arith, broken-sound), omega (arith, high-range s sound-valid limit))
-
-    abbrev fewer : ℕ
-    fewer = length (g .links) - 1
-
-    -- demand 2, at the low values, which a plan's values are: low × S^(m−1) ≤ S × (sound − broken) ≤ high × S^(m−1)
-    pub importance-enclosure-of-lows : (importance g i limit .low * S ^ fewer ≤ S * exactImportance g i) × (S * exactImportance g i ≤ importance g i limit .high * S ^ fewer)
-    importance-enclosure-of-lows =
-        let all : total (deleteAt i (map (weighted Down) (g .links))) ≡ S ^ fewer = ap total (sym (map-delete (weighted Down) i (g .links))) ∙ low-total b broken-valid ∙ ap (λ n. S ^ n) broken-links in
-        rw (← all, ← sound-exact Down, ← broken-exact Down) (importance-enclosure (low-weights g valid))
-
-    -- where the links' low and high values are equal: m − 1 links; n nodes with it broken, n − 1 with it sound where it is no loop
-    pub importance-width-of-equal : Equal g → importance g i limit .finished ≡ true
-        → importance g i limit .high ≤ importance g i limit .low + ((2 * fewer + 4 * soundCount g i) + (2 * fewer + 4 * length (g .nodes)))
-    importance-width-of-equal equal done =
-        let none : altogether (deleteAt i (gaps (g .links))) ≡ 0 =
-        ap altogether (sym (map-delete (λ (e : Link). e .high - e .low) i (g .links))) ∙ no-units (deleteAt i (g .links)) (λ f m. equal f (mem-delete i (g .links) m)) in
-        omega (arith, importance-width (low-weights g valid) done, none, sound-links, broken-links, sound-nodes)
 
 -- ---- difference
 
@@ -286,7 +271,7 @@ module _ (g h : Network) (gv : Valid g) (hv : Valid h) (limit : ℕ) where
 
     -- demand 2: plan A minus plan B
     pub difference-enclosure :
-        ((difference g h limit .low *ℤ pos (T * U)) ≤ℤ (pos S *ℤ apart N T M U)) × ((pos S *ℤ apart N T M U) ≤ℤ (difference g h limit .high *ℤ pos (T * U)))
+        ((difference g h limit .low *ℤ pos (T * U)) ≤ℤ (pos S *ℤ exactDifference N T M U)) × ((pos S *ℤ exactDifference N T M U) ≤ℤ (difference g h limit .high *ℤ pos (T * U)))
     difference-enclosure =
         let x = near-exact g gv limit gw in
         let y = near-exact h hv limit hw in
@@ -304,18 +289,3 @@ module _ (g h : Network) (gv : Valid g) (hv : Valid h) (limit : ℕ) where
         let y = width h hv limit hw (both .1) in
         let w = (2 * mg + 4 * length (g .nodes) + 2 * altogether cs) + (2 * mh + 4 * length (h .nodes) + 2 * altogether bs) in
         subst (λ (z : ℤ). difference g h limit .high ≤ℤ z) (sym (minus-add (f .low) (k .high) w)) (minus-order (f .high) (k .low) (f .low + w) (k .high) (omega arith))
-
-  -- demand 2, at the low values, which plans' values are: low × S^(m+m′) ≤ S × difference ≤ high × S^(m+m′)
-  pub difference-enclosure-of-lows :
-      ((difference g h limit .low *ℤ pos (S ^ (mg + mh))) ≤ℤ (pos S *ℤ exactDifference g h))
-      × ((pos S *ℤ exactDifference g h) ≤ℤ (difference g h limit .high *ℤ pos (S ^ (mg + mh))))
-  unfolding exact
-  difference-enclosure-of-lows =
-      rw (pow-add S mg mh, ← low-total g gv, ← low-total h hv) (difference-enclosure (low-weights g gv) (low-weights h hv))
-
-  -- where the links' low and high values are equal
-  pub difference-width-of-equal : Equal g → Equal h → difference g h limit .finished ≡ true
-      → difference g h limit .high ≤ℤ (difference g h limit .low +ℤ pos ((2 * mg + 4 * length (g .nodes)) + (2 * mh + 4 * length (h .nodes))))
-  difference-width-of-equal ge he done =
-      let w = rw (no-units (g .links) ge, no-units (h .links) he) at (difference-width (low-weights g gv) (low-weights h hv) done) in
-      subst (λ (n : ℕ). difference g h limit .high ≤ℤ (difference g h limit .low +ℤ pos n)) (omega arith) w

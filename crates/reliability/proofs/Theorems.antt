@@ -1,31 +1,26 @@
 -- What is promised of a figure, for every valid network and every limit.
-use Prim.Native.Nat.{ℕ, _+_, _-_, _*_, _^_, _≤_, min}
+use Prim.Native.Nat.{ℕ, _+_, _-_, _*_, _≤_, min}
 use mathlib.Core.Path.{_≡_}
 use mathlib.Core.List.{List, [], map}
 use mathlib.Core.Bool.{true}
-use native.Mathlib.Omega.{arith}
 use lib.Dec.{leb}
 use lib.ListN.{length}
 use Rattle.rounding.specs.Rounding.{S}
 use Rattle.rounding.specs.declared.Direction.{Direction}
 use Rattle.rounding.specs.declared.Direction.the-variants.{Down, Up}
 use Rattle.reliability.specs.Networks.{Network, Valid}
-use Rattle.reliability.specs.Exact.{Weighted, weighted, sum, total, exact, AllEnclosed, altogether, Equal}
+use Rattle.reliability.specs.Exact.{Weighted, weighted, sum, total, AllEnclosed, altogether}
 use Rattle.reliability.specs.Rule.{chosen, stepAt, tree, figure, needed, budget}
 use Rattle.reliability.proofs.Runs.{steps, finished}
 use Rattle.reliability.proofs.Steps.{view, chosen-link}
-use Rattle.reliability.proofs.Reductions.{total-is}
 use Rattle.reliability.proofs.Enclosure.{lawful}
-use Rattle.reliability.proofs.Weights.{Near, gaps, low-enclosed, no-units}
+use Rattle.reliability.proofs.Weights.{Near, gaps, low-enclosed}
 use Rattle.reliability.proofs.Validity.{valued}
 use Rattle.reliability.proofs.Promises as rule
 
--- a network's low values as exact weights, over S to the power m
+-- a network's low values as exact weights
 pub low-weights : (g : Network) → Valid g → AllEnclosed (gaps (g .links)) (g .links) (map (weighted Down) (g .links))
 low-weights g valid = low-enclosed (g .links) (valued valid)
-
-pub low-total : (g : Network) → Valid g → total (map (weighted Down) (g .links)) ≡ S ^ length (g .links)
-low-total g valid = total-is Down (g .links) (valued valid .range Down)
 
 module _ (g : Network) (limit : ℕ) where
   -- demand 3: the splits taken are those needed, as far as the limit goes
@@ -59,12 +54,3 @@ module _ (g : Network) (valid : Valid g) (limit : ℕ) where
     -- demand 3: a finished pair is at most 2m + 4n wide, and twice the links' own units
     pub width : figure g limit .finished ≡ true → figure g limit .high ≤ figure g limit .low + (2 * length (g .links) + 4 * length (g .nodes) + 2 * altogether cs)
     width = rule.width Valid view stepAt lawful chosen chosen-link g valid limit h
-
-  -- demand 2, at the low values, which a plan's values are: low × S^m ≤ S × N ≤ high × S^m
-  pub enclosure-of-lows : (figure g limit .low * S ^ length (g .links) ≤ S * exact Down g) × (S * exact Down g ≤ figure g limit .high * S ^ length (g .links))
-  unfolding exact
-  enclosure-of-lows = rw (← low-total g valid) (enclosure (low-weights g valid))
-
-  -- demand 3: where the links' low and high values are equal, a finished pair is at most 2m + 4n wide
-  pub width-of-equal : Equal g → figure g limit .finished ≡ true → figure g limit .high ≤ figure g limit .low + (2 * length (g .links) + 4 * length (g .nodes))
-  width-of-equal equal done = omega (arith, width (low-weights g valid) done, no-units (g .links) equal)

@@ -154,8 +154,3 @@ low-enclosed [] h = nil
 low-enclosed (e ∷ es) h =
     let order : e .low ≤ e .high = h .order e (List·Memᴰ·head refl) in
     cons {e = e} {w = weighted Down e} (link-enclosed (e .high - e .low) e (h .range Down e (List·Memᴰ·head refl)) order (omega arith)) (low-enclosed es (later h))
-
-pub no-units : (es : List Link) → ((e : Link) → List·Memᴰ e es → e .low ≡ e .high) → altogether (gaps es) ≡ 0
-unfolding altogether
-no-units [] h = refl
-no-units (e ∷ es) h = omega (arith, h e (List·Memᴰ·head refl), no-units es (λ f m. h f (List·Memᴰ·tail m)))

@@ -1,15 +1,13 @@
 -- Importance of a link and difference of two networks.
-use Prim.Native.Nat.{ℕ, _+_, _-_, _*_, _^_}
+use Prim.Native.Nat.{ℕ, _+_, _-_, _*_}
 use mathlib.Core.List.{List, [], _∷_}
 use mathlib.Core.Bool.{true, false, cond, _&&_}
 use lib.ListN.{length}
 use lib.IntN.{ℤ, pos, _-ℤ_}
-use Rattle.rounding.specs.Rounding.{S}
-use Rattle.rounding.specs.declared.Direction.the-variants.{Down}
 use Rattle.reliability.specs.declared.Figure.{Figure}
 use Rattle.reliability.specs.declared.Difference.{Difference}
 use Rattle.reliability.specs.Networks.{Network, linkAt, ends}
-use Rattle.reliability.specs.Exact.{Weighted, sum, exact}
+use Rattle.reliability.specs.Exact.{Weighted, sum}
 use Rattle.reliability.specs.Rule.{isLoop, deleteAt, deleted, contracted, figure}
 
 -- the network with link i broken: deletion
@@ -38,9 +36,9 @@ soundSum g ws i = sum (g .nodes) (deleteAt i ws) (ends (linkAt g i) ∷ [])
 abbrev pub brokenSum : Network → List Weighted → ℕ → ℕ
 brokenSum g ws i = sum (g .nodes) (deleteAt i ws) []
 
--- the exact importance of link i, over S to the power m - 1
-abbrev pub exactImportance : Network → ℕ → ℕ
-exactImportance g i = exact Down (soundAt i g) - exact Down (brokenAt i g)
+-- the exact importance of link i, over that total
+abbrev pub exactImportance : Network → List Weighted → ℕ → ℕ
+exactImportance g ws i = soundSum g ws i - brokenSum g ws i
 
 -- plan A minus plan B
 abbrev pub minus : Figure → Figure → Difference
@@ -49,10 +47,6 @@ minus f h = record { low = pos (f .low) -ℤ pos (h .high); high = pos (f .high)
 abbrev pub difference : Network → Network → ℕ → Difference
 difference g h limit = minus (figure g limit) (figure h limit)
 
--- N over T less M over U, over T times U
-abbrev pub apart : ℕ → ℕ → ℕ → ℕ → ℤ
-apart N T M U = pos (N * U) -ℤ pos (M * T)
-
--- the exact difference, over S to the power of both networks' links together
-abbrev pub exactDifference : Network → Network → ℤ
-exactDifference g h = apart (exact Down g) (S ^ length (g .links)) (exact Down h) (S ^ length (h .links))
+-- the exact difference of N over T and M over U, over T times U
+abbrev pub exactDifference : ℕ → ℕ → ℕ → ℕ → ℤ
+exactDifference N T M U = pos (N * U) -ℤ pos (M * T)

@@ -1,7 +1,7 @@
 -- Exact reliability: the sum over the sets of links that connect all nodes.
 use Prim.Native.Nat.{ℕ, _+_, _-_, _*_, _≤_, _<_}
 use mathlib.Core.Path.{_≡_}
-use mathlib.Core.List.{List, [], _∷_, map, List·Memᴰ}
+use mathlib.Core.List.{List, [], _∷_, map}
 use mathlib.Core.Bool.{cond}
 use Rattle.rounding.specs.Rounding.{S}
 use Rattle.rounding.specs.declared.Direction.{Direction}
@@ -50,7 +50,3 @@ pub data AllEnclosed : List ℕ → List Link → List Weighted → Type 0 where
 unfoldable pub altogether : List ℕ → ℕ
 altogether [] = 0
 altogether (c ∷ cs) = c + altogether cs
-
--- at first each link's low and high value are equal
-abbrev pub Equal : Network → Type 0
-Equal g = (e : Link) → List·Memᴰ e (g .links) → e .low ≡ e .high

@@ -1,5 +1,5 @@
 -- Sittings of a network, one after another, each by document 01's choice or by the rule's: what is saved, and what is promised of every answer.
-use Prim.Native.Nat.{ℕ, _+_, _-_, _*_, _^_, _≤_, min, zero-le}
+use Prim.Native.Nat.{ℕ, _+_, _-_, _*_, _≤_, min, zero-le}
 use mathlib.Core.Path.{_≡_, refl, sym, ap, _∙_, subst}
 use mathlib.Core.List.{List, [], _∷_}
 use mathlib.Core.Bool.{Bool, true, false, _||_, or-true as or-right}
@@ -14,15 +14,15 @@ use Rattle.rounding.specs.declared.Direction.{Direction}
 use Rattle.rounding.specs.declared.Direction.the-variants.{Down, Up}
 use Rattle.reliability.specs.declared.Figure.{Figure}
 use Rattle.reliability.specs.Networks.{Network, Valid}
-use Rattle.reliability.specs.Exact.{Weighted, sum, total, exact, AllEnclosed, altogether, Equal}
+use Rattle.reliability.specs.Exact.{Weighted, sum, total, AllEnclosed, altogether}
 use Rattle.reliability.specs.Rule.{firstLink, chosen, stepAt, Tree, treeBy, tree, side, more, run, budget}
 use Rattle.reliability.proofs.Lawful.{Place}
 use Rattle.reliability.proofs.Runs.{steps, range, nested}
 use Rattle.reliability.proofs.Steps.{view, first-link, chosen-link}
 use Rattle.reliability.proofs.Validity.{valued}
 use Rattle.reliability.proofs.Enclosure.{Encloses, Figured, lawful}
-use Rattle.reliability.proofs.Weights.{Near, near-weights, low-below-high, no-wider, total-pos, no-units}
-use Rattle.reliability.proofs.Theorems.{low-weights, low-total}
+use Rattle.reliability.proofs.Weights.{Near, near-weights, low-below-high, no-wider, total-pos}
+use Rattle.reliability.proofs.Theorems.{low-weights}
 use Rattle.sittings.specs.Sittings.{Open, sides, opens, resumed, traced, Saved, begun, complete, nothing, most, sitting, Choosing, byFirstLink, byLargestSum, choiceOf, savedBy}
 use Rattle.sittings.specs.Entries.{Known, InRange, InOrder}
 use Rattle.sittings.proofs.Bounds.{traced-few, tree-deep}
@@ -192,15 +192,6 @@ module _ (g : Network) where
 
       pub sitting-low-high : answer .low ≤ answer .high
       sitting-low-high = ordered (low-weights g valid)
-
-      -- at the low values, which a plan's values are: low × S^m ≤ S × N ≤ high × S^m
-      pub sitting-enclosure-of-lows : (answer .low * S ^ length (g .links) ≤ S * exact Down g) × (S * exact Down g ≤ answer .high * S ^ length (g .links))
-      unfolding exact
-      sitting-enclosure-of-lows = rw (← low-total g valid) (sitting-enclosure (low-weights g valid))
-
-      -- where the links' low and high values are equal, a finished pair is at most 2m + 4n wide
-      pub sitting-width-of-equal : Equal g → answer .finished ≡ true → answer .high ≤ answer .low + (2 * length (g .links) + 4 * length (g .nodes))
-      sitting-width-of-equal equal done = omega (arith, sitting-width (low-weights g valid) done, no-units (g .links) equal)
 
 -- ---- what the checks of saved work ask
 
