@@ -1,13 +1,17 @@
 -- Plans as bytes and what is returned of them, the edges of each cause among them: one proof computes them all from the
 -- definitions.
-use Prim.Native.Nat.{ℕ, _+_, _*_}
+use Prim.Native.Nat.{ℕ, _+_, _-_, _*_, _^_}
 use mathlib.Core.Path.{_≡_, refl}
 use mathlib.Core.List.{List, [], _∷_}
 use mathlib.Core.Bool.{Bool, true}
 use lib.Dec.{eqb}
 use lib.ListN.{replicate}
-use Rattle.reliability.specs.Networks.{linked, every}
+use Rattle.ratings.specs.Ratings.{T}
+use Rattle.reliability.specs.Networks.{linked, every, filter, merge, label, connected}
+use Rattle.reliability.specs.Exact.{sum}
+use Rattle.reliability.specs.Rule.{deleteAt}
 use Rattle.plan.specs.Plans.{rated, linkVerdict, linksVerdict, verdict, returned, linkIn, planOf}
+use Rattle.plan.specs.Weights.{weightIn, exactOf, lengthsAmong, lengths, otherLengths}
 use Rattle.search.specs.Searches.{from}
 
 pub record Row : Type 0 where
@@ -70,3 +74,15 @@ examples = refl
 pub listed-links : planOf listed .links ≡ (linked 0 1 (λ d. 900000000) ∷ linked 0 1 (λ d. 800000000) ∷ [])
 unfolding listed from linkIn rated
 listed-links = refl
+
+-- two nodes, and between them a link of one half and one of length 0: connected unless both are broken
+unfoldable pub mixed : List ℕ
+mixed = 2 ∷ 0 ∷ 2 ∷ 0 ∷ 0 ∷ 1 ∷ 0 ∷ 1 ∷ 0 ∷ 101 ∷ 205 ∷ 29 ∷ 0 ∷ 0 ∷ 0 ∷ 128 ∷ []
+
+pub mixed-lengths : (lengths mixed ≡ 1) × (otherLengths mixed 0 ≡ 1) × (otherLengths mixed 1 ≡ 0)
+unfolding mixed lengthsAmong filter deleteAt from rated
+mixed-lengths = (refl, refl, refl)
+
+pub mixed-exact : exactOf mixed ≡ 1000000000 ^ 4 - 500000000 * (1000000000 ^ 3 - 1000000000 * 999950000 ^ 2)
+unfolding mixed exactOf weightIn sum connected every label merge linkIn from rated T
+mixed-exact = refl

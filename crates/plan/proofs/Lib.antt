@@ -1,4 +1,5 @@
 pub mod Verdicts
+pub mod Values
 pub mod Links
 pub mod Examples
 pub mod Accepted

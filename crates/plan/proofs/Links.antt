@@ -1,60 +1,20 @@
--- The links of a plan: what each stands for, and its exact weights.
-use Prim.Native.Nat.{ℕ, zero, suc, _+_, _-_, _*_, _≤_, _<_, zero-le}
+-- The links of a plan.
+use Prim.Native.Nat.{ℕ, zero, suc, _+_, _≤_, _<_}
 use mathlib.Core.Path.{_≡_, refl, sym, ap, _∙_, subst}
 use mathlib.Core.List.{List, [], _∷_, _++_, map, List·Memᴰ, List·Memᴰ·not-nil, List·Memᴰ·cases-cons}
-use mathlib.Core.Bool.{Bool, true, false, _&&_}
 use mathlib.Core.Logic.{⊎-elim}
 use native.Mathlib.Numerals.{add-one}
 use native.Mathlib.Omega.{arith}
 use native.Mathlib.Nat.{le-refl, add-zero, zero-add, suc-add, add-suc}
-use lib.Dec.{leb}
-use lib.ListN.{length, getD}
-use borrow.Author.Tests.{leb-true}
-use Rattle.rounding.specs.Rounding.{S}
-use Rattle.rounding.specs.declared.Direction.{Direction}
-use Rattle.rounding.specs.declared.Direction.the-variants.{Down, Up}
-use Rattle.ratings.specs.Ratings.{T}
-use Rattle.ratings.proofs.Laws.{range}
-use Rattle.ratings.proofs.Joints.{joints-range, joints-order}
+use lib.ListN.{getD}
 use Rattle.reliability.specs.declared.Link.{Link}
 use Rattle.reliability.specs.Networks.{Proper}
 use Rattle.reliability.proofs.Validity.{value-linked}
 use Rattle.search.specs.Searches.{from}
-use Rattle.plan.specs.declared.Rated.{Rated}
-use Rattle.plan.specs.declared.Rated.the-variants.{Units, OfLength, Unrated}
 use Rattle.plan.specs.declared.Verdict.the-variants.{Accepted}
-use Rattle.plan.specs.Plans.{sizeN, sizeM, firstEnd, secondEnd, fileValue, ratedBy, rated, valueOf, verdict, linkIn}
+use Rattle.plan.specs.Plans.{sizeN, sizeM, firstEnd, secondEnd, fileValue, verdict, linkIn}
+use Rattle.plan.proofs.Values.{value-range, value-order}
 use Rattle.plan.proofs.Verdicts.{accepted-means}
-
--- what holds of each value in units up to S, of each length up to 511 and of none holds of what every value stands for
-pub by-rated : (P : Rated → Type 0) → ((v : ℕ) → v ≤ S → P (Units v)) → ((k : ℕ) → k ≤ 511 → P (OfLength k)) → P Unrated → (w : ℕ) → P (rated w)
-unfolding rated
-by-rated P units length none w = go (leb w S) (leb 2147483648 w) (leb (w - 2147483648) 511) (leb-true w S) (leb-true (w - 2147483648) 511)
-  where
-    go : (s t u : Bool) → (s ≡ true → w ≤ S) → (u ≡ true → w - 2147483648 ≤ 511) → P (ratedBy s (t && u) w)
-    go true t u h k = units w (h refl)
-    go false true true h k = length (w - 2147483648) (k refl)
-    go false true false h k = none
-    go false false u h k = none
-
--- it is a chance, low no higher than high
-pub value-range : (d : Direction) (w : ℕ) → valueOf d (rated w) ≤ S
-value-range d = by-rated (λ r. valueOf d r ≤ S) (λ v h. h) (λ k h. joints-range d (T k) (range k)) zero-le
-
-pub value-order : (w : ℕ) → valueOf Down (rated w) ≤ valueOf Up (rated w)
-value-order = by-rated (λ r. valueOf Down r ≤ valueOf Up r) (λ v h. le-refl v) (λ k h. joints-order (T k)) (le-refl 0)
-
--- the hundred metres of a length
-abbrev hundreds : Rated → ℕ
-hundreds (Units v) = 0
-hundreds (OfLength k) = k
-hundreds Unrated = 0
-
--- they are a place of the table
-pub in-table : {k : ℕ} (w : ℕ) → rated w ≡ OfLength k → k < 512
-in-table {k} w e =
-    let most = by-rated (λ r. hundreds r ≤ 511) (λ v h. zero-le) (λ j h. h) zero-le w in
-    omega (arith, ap hundreds e)
 
 -- ---- the links at the places from i on, k of them
 

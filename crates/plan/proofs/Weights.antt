@@ -23,7 +23,7 @@ use Rattle.plan.specs.declared.Rated.{Rated}
 use Rattle.plan.specs.declared.Rated.the-variants.{Units, OfLength, Unrated}
 use Rattle.plan.specs.Plans.{sizeM, firstEnd, secondEnd, fileValue, rated, valueOf, linkIn, planOf}
 use Rattle.plan.specs.Weights.{soundParts, allParts, weightIn, weightsOf, isLength, lengthsAmong, lengths, otherLengths}
-use Rattle.plan.proofs.Links.{by-rated}
+use Rattle.plan.proofs.Values.{by-rated}
 use Rattle.plan.proofs.Accepted.{length-from}
 
 -- the units by which a link may be off: 2 where it is given by length

@@ -1,3 +1,4 @@
+pub mod Examples
 pub mod Table
 pub mod Laws
 pub mod Joints

@@ -5,7 +5,7 @@ use Rattle.rounding.specs.Rounding.{S}
 use Rattle.ratings.specs.Ratings.{withJoints}
 use Rattle.ratings.proofs.Laws.{range}
 use Rattle.plan.specs.Plans.{valueOf}
-use Rattle.plan.proofs.Links.{in-table}
+use Rattle.plan.proofs.Values.{in-table}
 use Rattle.plan.proofs.value_of.Statement.{statement}
 use Rattle.plan.proofs.value_of.Tie as tie
 
