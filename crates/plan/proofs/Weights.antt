@@ -1,6 +1,6 @@
 -- The exact weights of a plan's links: each link's low and high value enclose them, off by less than 2 units where it is given by length.
 use Prim.Native.Nat.{ℕ, zero, suc, _+_, _-_, _*_, _^_, _≤_, _<_, zero-le}
-use mathlib.Core.Path.{_≡_, refl, sym, ap, ap₂, _∙_, subst}
+use mathlib.Core.Path.{_≡_, refl, sym, ap, ap₂, _∙_}
 use mathlib.Core.List.{List, [], _∷_, map}
 use mathlib.Core.Bool.{Bool, true, false, cond}
 use native.Mathlib.Nat.{add-sub-of-le, le-refl}
@@ -10,17 +10,16 @@ use lib.ListN.{length}
 use lib.Pow.{pow-add}
 use Rattle.rounding.specs.Rounding.{S}
 use Rattle.rounding.specs.declared.Direction.the-variants.{Down, Up}
-use Rattle.rounding.proofs.Laws.{Bounds, Off}
-use Rattle.ratings.specs.Ratings.{T, J, withJoints}
+use Rattle.ratings.specs.Ratings.{T, J}
 use Rattle.ratings.proofs.Laws.{range}
 use Rattle.ratings.proofs.Joints.{joints-bound, joints-near}
-use Rattle.reliability.specs.Networks.{linked, ends, filter}
-use Rattle.reliability.specs.Exact.{Weighted, weighted, total, Enclosed, AllEnclosed, nil, cons, altogether}
+use Rattle.reliability.specs.Networks.{linked, filter}
+use Rattle.reliability.specs.Exact.{total, Enclosed, AllEnclosed, nil, cons, altogether}
 use Rattle.reliability.specs.Rule.{deleteAt}
 use Rattle.reliability.proofs.Lists.{map-delete, length-delete}
 use Rattle.search.specs.Searches.{from}
 use Rattle.plan.specs.declared.Rated.{Rated}
-use Rattle.plan.specs.declared.Rated.the-variants.{Units, OfLength, Unrated}
+use Rattle.plan.specs.declared.Rated.the-variants.{Units, OfLength}
 use Rattle.plan.specs.Plans.{sizeM, firstEnd, secondEnd, fileValue, rated, valueOf, linkIn, planOf}
 use Rattle.plan.specs.Weights.{soundParts, allParts, weightIn, weightsOf, isLength, lengthsAmong, lengths, otherLengths}
 use Rattle.plan.proofs.Values.{by-rated}

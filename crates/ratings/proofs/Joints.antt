@@ -1,5 +1,5 @@
 -- A cable with both its joints: its low and its high bound the exact chance, and each is off by less than 2 units.
-use Prim.Native.Nat.{ℕ, _+_, _*_, _≤_, _<_}
+use Prim.Native.Nat.{ℕ, _*_, _≤_}
 use native.Mathlib.Omega.{arith}
 use lib.Dec.{lit≤}
 use Rattle.rounding.specs.Rounding.{S, product}

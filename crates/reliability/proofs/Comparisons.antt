@@ -1,12 +1,12 @@
 -- What is promised of an importance and of a difference: the promises of their two figures, combined.
 use Prim.Native.Nat.{ℕ, _+_, _-_, _*_, _≤_, _<_, min, max}
 use mathlib.Core.Path.{_≡_, refl, sym, ap, ap₂, _∙_, subst, subst₂}
-use mathlib.Core.List.{List, [], map}
+use mathlib.Core.List.{List, [], _∷_, map}
 use mathlib.Core.Bool.{Bool, true, false, cond, _&&_, and-eq-true-iff}
 use native.Mathlib.Nat.{mul-assoc, mul-comm, mul-sub, add-le-add, mul-le-mul-left, mul-le-mul-right, le-of-mul-le-mul-right, le-refl, le-trans}
 use native.Mathlib.Omega.{arith}
 use lib.Dec.{leb}
-use lib.ListN.{length, length-map, List·getD-map}
+use lib.ListN.{length, getD, length-map}
 use lib.IntN.{ℤ, pos, negℤ, _+ℤ_, _-ℤ_, _*ℤ_, *ℤ-comm}
 use lib.Signed.{_≤ℤ_}
 use borrow.Author.Tests.{eqb-true, eqb-false}
@@ -16,17 +16,16 @@ use Rattle.rounding.specs.declared.Direction.the-variants.{Down, Up}
 use Rattle.rounding.proofs.Laws.{sub-mul}
 use Rattle.reliability.specs.declared.Link.{Link}
 use Rattle.reliability.specs.declared.Figure.{Figure}
-use Rattle.reliability.specs.Networks.{Network, Valid, ends, value, linked, linkAt}
-use Rattle.reliability.specs.Exact.{Weighted, weighted, sum, total, exact, AllEnclosed, altogether}
+use Rattle.reliability.specs.Networks.{Network, Valid, ends, linked, linkAt}
+use Rattle.reliability.specs.Exact.{Weighted, sum, total, AllEnclosed, altogether}
 use Rattle.reliability.specs.Rule.{isLoop, deleteAt, without, deleted, contracted, renamed, figure, needed, budget}
 use Rattle.reliability.specs.Comparisons.{soundAt, soundCount, brokenAt, importance, soundSum, brokenSum, exactImportance, difference, exactDifference}
-use Rattle.reliability.proofs.Lists.{map-delete, length-delete}
+use Rattle.reliability.proofs.Lists.{length-delete}
 use Rattle.reliability.proofs.States.{moved, front, sum-more, loop-idle, contraction, onto-kept}
 use Rattle.reliability.proofs.Validity.{proper-at, smaller-node, larger-node, larger-smaller, deleted-valid, contracted-valid}
-use Rattle.reliability.proofs.Reductions.{weighted-renamed}
 use Rattle.reliability.proofs.Enclosure.{without-less}
 use Rattle.reliability.proofs.Signed.{minus-order, minus-mul, minus-add}
-use Rattle.reliability.proofs.Weights.{Near, total-pos, all-deleted, all-renamed, total-moved}
+use Rattle.reliability.proofs.Weights.{Near, total-pos, all-at, all-deleted, all-renamed, total-moved}
 use Rattle.reliability.proofs.Theorems.{steps-taken, finished-when, nesting, high-range, low-high, near-exact, width, low-weights}
 
 -- ---- a link sound or broken
@@ -72,34 +71,12 @@ module _ (g : Network) (valid : Valid g) (i : ℕ) (place : i < length (g .links
   pub sound-more : (ws : List Weighted) → brokenSum g ws i ≤ soundSum g ws i
   sound-more ws = sum-more (g .nodes) (deleteAt i ws) (ends e) []
 
-  -- at one direction's values
-  module _ (d : Direction) where
-    abbrev values : List Weighted
-    values = map (weighted d) (g .links)
-
-    sound-values : soundWeights values ≡ map (weighted d) (soundAt i g .links)
-    unfolding soundAt soundWeights
-    sound-values = by-loop (λ t. weights-if t values ≡ map (weighted d) (sound-if t .links)) (λ l. sym (map-delete (weighted d) i (g .links)))
-        (λ n. ap (map (moved keep gone)) (sym (map-delete (weighted d) i (g .links))) ∙ weighted-renamed d keep gone (deleteAt i (g .links)))
-
-    pub sound-exact : soundSum g values i ≡ exact d (soundAt i g)
-    unfolding exact
-    sound-exact = sym (sound-sum values) ∙ ap (λ l. sum (soundAt i g .nodes) l []) sound-values
-
-    pub broken-exact : brokenSum g values i ≡ exact d (brokenAt i g)
-    unfolding exact
-    broken-exact = ap (λ l. sum (g .nodes) l []) (sym (map-delete (weighted d) i (g .links)))
-
-    -- the pivotal identity: with chance p the network is that with link i sound, else that with it broken
-    pub pivotal : exact d g ≡ value d (linkAt g i) * exact d (soundAt i g) + (S - value d (linkAt g i)) * exact d (brokenAt i g)
-    unfolding exact
-    pivotal =
-        rw (List·getD-map (weighted d) (g .links) i (linked 0 0 (λ d. 0))) at (front (g .nodes) values [] i (weighted d (linked 0 0 (λ d. 0))) (rw (length-map (g .links) (weighted d)) place))
-        ∙ ap₂ (λ s b. value d (linkAt g i) * s + (S - value d (linkAt g i)) * b) sound-exact broken-exact
-
-    -- with the link sound no less is connected, so a truncated difference is the difference
-    pub sound-broken : exact d (brokenAt i g) ≤ exact d (soundAt i g)
-    sound-broken = rw (← sound-exact, ← broken-exact) (sound-more values)
+  -- the pivotal identity: in the exact sum the network is that with link i sound by its sound weight, and that with it broken by its broken weight
+  pub pivotal : {cs : List ℕ} {ws : List Weighted} → AllEnclosed cs (g .links) ws → (z : Weighted)
+      → sum (g .nodes) ws [] ≡ getD ws i z .sound * soundSum g ws i + getD ws i z .broken * brokenSum g ws i
+  pivotal {ws = ws} h z =
+      let at = all-at h i place (linked 0 0 (λ d. 0)) z in
+      front (g .nodes) ws [] i z (at .0) ∙ ap (λ j. getD ws i z .sound * sum (g .nodes) (deleteAt i ws) (j ∷ []) + getD ws i z .broken * brokenSum g ws i) (sym (at .1))
 
   pub broken-valid : Valid (brokenAt i g)
   broken-valid = deleted-valid g valid i

@@ -1,12 +1,12 @@
 -- From a link's low and high value to the exact weights between them.
-use Prim.Native.Nat.{ℕ, zero, suc, _+_, _-_, _*_, _^_, _≤_, _<_, zero-le}
+use Prim.Native.Nat.{ℕ, zero, suc, _+_, _-_, _*_, _^_, _≤_, _<_, zero-le, suc-le-suc}
 use mathlib.Core.Path.{_≡_, refl, sym, ap, _∙_}
 use mathlib.Core.List.{List, [], _∷_, map, List·Memᴰ, List·Memᴰ·head, List·Memᴰ·tail}
 use mathlib.Core.Bool.{true}
-use native.Mathlib.Nat.{mul-comm, mul-add, add-mul, add-sub-of-le, mul-le-mul-right, le-refl, le-trans, le-of-eq, le-of-mul-le-mul-right, one-le-pow, mul-pos, pow-succ'}
+use native.Mathlib.Nat.{mul-comm, mul-add, add-mul, add-sub-of-le, mul-le-mul-right, le-refl, le-trans, le-of-eq, le-of-mul-le-mul-right, le-of-suc-le-suc, not-suc-le-zero, one-le-pow, mul-pos, pow-succ'}
 use native.Mathlib.Omega.{arith}
 use lib.Dec.{lit<}
-use lib.ListN.{length}
+use lib.ListN.{length, getD}
 use Rattle.rounding.specs.Rounding.{S}
 use Rattle.rounding.specs.declared.Direction.{Direction}
 use Rattle.rounding.specs.declared.Direction.the-variants.{Down, Up}
@@ -107,6 +107,12 @@ pub total-pos : {cs : List ℕ} {es : List Link} {ws : List Weighted} → AllEnc
 unfolding total
 total-pos nil = lit< tt
 total-pos (cons h hs) = mul-pos (h .some) (total-pos hs)
+
+-- there are as many weights as links, and those of a link are between its ends
+pub all-at : {cs : List ℕ} {es : List Link} {ws : List Weighted} → AllEnclosed cs es ws → (i : ℕ) → i < length es → (e : Link) (w : Weighted) → (i < length ws) × (ends (getD es i e) ≡ getD ws i w .joins)
+all-at nil i h e w = absurd (not-suc-le-zero h)
+all-at (cons k ks) zero h e w = (suc-le-suc zero-le, k .joins)
+all-at (cons k ks) (suc i) h e w = let n = all-at ks i (le-of-suc-le-suc h) e w in (suc-le-suc (n .0), n .1)
 
 pub all-deleted : (i : ℕ) {cs : List ℕ} {es : List Link} {ws : List Weighted} → AllEnclosed cs es ws → AllEnclosed (deleteAt i cs) (deleteAt i es) (deleteAt i ws)
 unfolding deleteAt
