@@ -14,9 +14,9 @@ use Rattle.rounding.specs.Rounding.{S}
 use Rattle.reliability.specs.declared.Figure.{Figure}
 use Rattle.reliability.specs.Networks.{Valid}
 use Rattle.reliability.specs.Exact.{Weighted, sum, total, altogether}
-use Rattle.plan.specs.Plans.{WellFormed, sizeN, sizeM, planOf}
+use Rattle.plan.specs.Plans.{WellFormed, planOf}
 use Rattle.plan.proofs.Verdicts.{accepted-means}
-use Rattle.plan.specs.Weights.{weightsOf, exactOf, lengths}
+use Rattle.plan.specs.Weights.{weightsOf, exactOf}
 use Rattle.plan.proofs.Accepted.{plan-valid, plan-links, plan-nodes}
 use Rattle.plan.proofs.Weights.{unitsIn, plan-units, plan-total}
 use Rattle.refusals.specs.declared.CallCause.{CallCause}
@@ -24,10 +24,10 @@ use Rattle.refusals.specs.declared.CallVerdict.{CallVerdict}
 use Rattle.refusals.specs.declared.CallVerdict.the-variants.{Accepted, Refused}
 use Rattle.refusals.specs.Refusals.{callReturned}
 use Rattle.refusals.proofs.Calls.{call-number-range, zero-accepted}
-use Rattle.answers.specs.Answers.{withFigure, lowIn, highIn, finishedIn, Holds}
+use Rattle.answers.specs.Answers.{withFigure, Holds}
 use Rattle.answers.proofs.Laws.{written}
 use Rattle.desk.specs.Outcomes.{twos, Outcome, unless}
-use Rattle.desk.specs.Answers.{signed, Marked, Full, Refusal}
+use Rattle.desk.specs.Answers.{signed, Encloses, Narrow, Marked, Full, Refusal}
 
 -- ---- accepted or refused
 
@@ -73,12 +73,12 @@ module _ (plan after : List ℕ) (f : Figure) (holds : Holds after f) where
   ws = weightsOf plan
 
   pub encloses-read : (f .low * total ws ≤ S * sum (planOf plan .nodes) ws []) × (S * sum (planOf plan .nodes) ws [] ≤ f .high * total ws)
-      → (lowIn after * S ^ (sizeM plan + 2 * lengths plan) ≤ S * exactOf plan) × (S * exactOf plan ≤ highIn after * S ^ (sizeM plan + 2 * lengths plan))
+      → Encloses plan after
   unfolding exactOf
-  encloses-read h = rw (holds .low, holds .high, ← plan-total plan) h
+  encloses-read h = record { low = rw (holds .low, ← plan-total plan) (h .0); high = rw (holds .high, ← plan-total plan) (h .1) }
 
   pub width-read : (f .finished ≡ true → f .high ≤ f .low + (2 * length (planOf plan .links) + 4 * length (planOf plan .nodes) + 2 * altogether (unitsIn plan)))
-      → finishedIn after ≡ 1 → highIn after ≤ lowIn after + (2 * sizeM plan + 4 * sizeN plan + 4 * lengths plan)
+      → Narrow plan after
   width-read h done = omega (arith, h (mark-true (f .finished) (holds .finished) done), holds, plan-links plan, plan-nodes plan, plan-units plan)
 
 pub signed-back : (z : ℤ) → mag z < 2 ^ 31 → signed (twos z) ≡ z

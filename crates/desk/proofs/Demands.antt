@@ -1,5 +1,5 @@
 -- The three demands on a figure, over what the call returns and the numbers that it leaves in the answer buffer.
-use Prim.Native.Nat.{ℕ, _+_, _*_, _^_, _≤_, min}
+use Prim.Native.Nat.{ℕ, _+_, _≤_, min}
 use mathlib.Core.Path.{_≡_, ap, _∙_}
 use mathlib.Core.List.{List}
 use mathlib.Core.Logic.{_⊎_, _↔_, Iff·trans}
@@ -11,9 +11,8 @@ use Rattle.reliability.specs.declared.Figure.{Figure}
 use Rattle.reliability.specs.Networks.{Network, Valid}
 use Rattle.reliability.specs.Rule.{figure, needed}
 use Rattle.reliability.proofs.Theorems as rule
-use Rattle.plan.specs.Plans.{WellFormed, sizeN, sizeM, verdict, planOf}
+use Rattle.plan.specs.Plans.{WellFormed, verdict, planOf}
 use Rattle.plan.proofs.Verdicts.{accepted-means, zero-means}
-use Rattle.plan.specs.Weights.{exactOf, lengths}
 use Rattle.plan.proofs.Weights.{plan-enclosed, plan-lengths}
 use Rattle.refusals.specs.declared.CallVerdict.{CallVerdict}
 use Rattle.refusals.specs.declared.CallVerdict.the-variants.{Accepted}
@@ -21,7 +20,7 @@ use Rattle.refusals.specs.Refusals.{callReturned, figureVerdict}
 use Rattle.refusals.proofs.Calls.{figure-means}
 use Rattle.answers.specs.Answers.{withFigure, lowIn, highIn, stepsIn, finishedIn, Holds}
 use Rattle.desk.specs.Outcomes.{Outcome, checkOutcome, figureOutcome}
-use Rattle.desk.specs.Answers.{LiesWithin, Marked, Full, Refusal}
+use Rattle.desk.specs.Answers.{Encloses, Narrow, LiesWithin, Marked, Full, Refusal}
 use Rattle.desk.proofs.Answers.{full-or-refused, returned-of, zero-of, valid-of, read-back, encloses-read, width-read, marked}
 
 -- demand 1: check accepts a plan that meets none of the causes 1 to 6, and no other
@@ -65,19 +64,6 @@ module _ (plan : List ℕ) (limit : ℕ) (b : List ℕ) where
     abbrev after : List ℕ
     after = o .buffer
 
-    abbrev m : ℕ
-    m = sizeM plan
-
-    abbrev n : ℕ
-    n = sizeN plan
-
-    -- the links given by length
-    abbrev L : ℕ
-    L = lengths plan
-
-    abbrev N : ℕ
-    N = exactOf plan
-
     well : WellFormed plan
     well = figure-accepted .0 zero .2
 
@@ -93,7 +79,7 @@ module _ (plan : List ℕ) (limit : ℕ) (b : List ℕ) where
         read-back f b figure-full-or-refused zero (omega (arith, range, figure-accepted .0 zero .0, rule.steps-taken g limit))
 
     -- demand 2: low × S^(m+2L) ≤ S × N ≤ high × S^(m+2L), also when steps run out
-    pub figure-encloses : (lowIn after * S ^ (m + 2 * L) ≤ S * N) × (S * N ≤ highIn after * S ^ (m + 2 * L))
+    pub figure-encloses : Encloses plan after
     figure-encloses = encloses-read plan after f figure-numbers (rule.enclosure g valid limit (plan-enclosed plan))
 
     -- from 0 to S, low no higher than high
@@ -109,7 +95,7 @@ module _ (plan : List ℕ) (limit : ℕ) (b : List ℕ) where
     figure-marked = marked (needed g) limit (figure-numbers .finished ∙ ap (λ t. cond t 1 0) (rule.finished-when g limit))
 
     -- demand 3: a finished pair is at most 2m + 4n + 4L wide, however many splits it took
-    pub figure-width : finishedIn after ≡ 1 → highIn after ≤ lowIn after + (2 * m + 4 * n + 4 * L)
+    pub figure-width : Narrow plan after
     figure-width = width-read plan after f figure-numbers (rule.width g valid limit (plan-enclosed plan))
 
     -- so no plan's 0 to S is finished

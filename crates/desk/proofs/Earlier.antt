@@ -1,5 +1,5 @@
 -- Work carried on from earlier sittings of the plan, each by document 01's choice of the link to split on or by the rule's: what is claimed of the answer.
-use Prim.Native.Nat.{ℕ, _+_, _*_, _^_, _≤_, min}
+use Prim.Native.Nat.{ℕ, _+_, _≤_, min}
 use mathlib.Core.Path.{_≡_, sym, ap, _∙_, subst}
 use mathlib.Core.List.{List}
 use mathlib.Core.Bool.{cond}
@@ -8,8 +8,7 @@ use Rattle.rounding.specs.Rounding.{S}
 use Rattle.reliability.specs.declared.Figure.{Figure}
 use Rattle.reliability.specs.Networks.{Network, Valid}
 use Rattle.reliability.specs.Rule.{splits, tree}
-use Rattle.plan.specs.Plans.{WellFormed, sizeN, sizeM, planOf}
-use Rattle.plan.specs.Weights.{exactOf, lengths}
+use Rattle.plan.specs.Plans.{WellFormed, planOf}
 use Rattle.plan.proofs.Weights.{plan-enclosed}
 use Rattle.answers.specs.Answers.{lowIn, highIn, stepsIn, finishedIn, Holds}
 use Rattle.answers.proofs.Laws.{written}
@@ -20,7 +19,7 @@ use Rattle.saved.specs.Format.{savedBytes}
 use Rattle.sitting_desk.specs.Outcome.{SittingOutcome}
 use Rattle.sitting_desk.specs.Chains.{Lent, Allowed, sat, Earlier}
 use Rattle.sitting_desk.proofs.Demands.{good, earlier-carried}
-use Rattle.desk.specs.Answers.{Marked, LiesWithin}
+use Rattle.desk.specs.Answers.{Encloses, Narrow, Marked, LiesWithin}
 use Rattle.desk.proofs.Answers.{valid-of, encloses-read, width-read, marked}
 
 module _ (plan : List ℕ) (well : WellFormed plan) (s : Saved) (e : Earlier plan s) where
@@ -43,18 +42,6 @@ module _ (plan : List ℕ) (well : WellFormed plan) (s : Saved) (e : Earlier pla
     abbrev f : Figure
     f = sitting (tree g) s (x .limit) .answer
 
-    abbrev m : ℕ
-    m = sizeM plan
-
-    abbrev n : ℕ
-    n = sizeN plan
-
-    abbrev L : ℕ
-    L = lengths plan
-
-    abbrev N : ℕ
-    N = exactOf plan
-
     -- it is accepted
     pub carried-returned : last .returned ≡ 0
     carried-returned = ap (λ (o : SittingOutcome). o .returned) (earlier-carried plan well s e x a)
@@ -68,14 +55,14 @@ module _ (plan : List ℕ) (well : WellFormed plan) (s : Saved) (e : Earlier pla
         (written f (x .answer) (omega (arith, range, sitting-few g valid s good-work (x .limit))))
 
     -- demand 2: low × S^(m+2L) ≤ S × N ≤ high × S^(m+2L), also when steps run out
-    pub carried-encloses : (lowIn after * S ^ (m + 2 * L) ≤ S * N) × (S * N ≤ highIn after * S ^ (m + 2 * L))
+    pub carried-encloses : Encloses plan after
     carried-encloses = encloses-read plan after f numbers (sitting-enclosure g valid s good-work (x .limit) (plan-enclosed plan))
 
     pub carried-range : (lowIn after ≤ highIn after) × (highIn after ≤ S)
     carried-range = omega (arith, numbers, range)
 
     -- demand 3: a finished pair is at most 2m + 4n + 4L wide
-    pub carried-width : finishedIn after ≡ 1 → highIn after ≤ lowIn after + (2 * m + 4 * n + 4 * L)
+    pub carried-width : Narrow plan after
     carried-width = width-read plan after f numbers (sitting-width g valid s good-work (x .limit) (plan-enclosed plan))
 
     -- of begun work, with its steps so far and the splits still to take

@@ -1,5 +1,5 @@
 -- A plan worked through several sittings: the demands on a figure hold of the last answer.
-use Prim.Native.Nat.{ℕ, _+_, _*_, _^_, _≤_, min}
+use Prim.Native.Nat.{ℕ, _+_, _≤_, min}
 use mathlib.Core.Path.{_≡_, sym, _∙_, subst}
 use mathlib.Core.List.{List}
 use native.Mathlib.Omega.{arith}
@@ -7,8 +7,7 @@ use lib.ListN.{length}
 use Rattle.rounding.specs.Rounding.{S}
 use Rattle.reliability.specs.Exact.{altogether}
 use Rattle.reliability.specs.Rule.{figure, needed}
-use Rattle.plan.specs.Plans.{WellFormed, sizeN, sizeM, planOf}
-use Rattle.plan.specs.Weights.{exactOf, lengths}
+use Rattle.plan.specs.Plans.{WellFormed, planOf}
 use Rattle.refusals.specs.Refusals.{figureVerdict}
 use Rattle.answers.specs.Answers.{withFigure, lowIn, highIn, stepsIn, finishedIn}
 use Rattle.sittings.specs.Sittings.{nothing}
@@ -17,7 +16,7 @@ use Rattle.sitting_desk.specs.Outcome.{SittingOutcome}
 use Rattle.sitting_desk.specs.Chains.{Lent, Allowed, AllAllowed, sat, handedOn, limits}
 use Rattle.sitting_desk.proofs.Demands as sittings
 use Rattle.desk.specs.Outcomes.{figureOutcome}
-use Rattle.desk.specs.Answers.{Marked, LiesWithin}
+use Rattle.desk.specs.Answers.{Encloses, Narrow, Marked, LiesWithin}
 use Rattle.desk.proofs.Answers.{answers}
 use Rattle.desk.proofs.Demands.{figure-zero, figure-accepted, figure-encloses, figure-range, figure-steps, figure-marked, figure-nesting, figure-width}
 
@@ -49,18 +48,6 @@ module _ (plan : List ℕ) (well : WellFormed plan) where
     abbrev total : ℕ
     total = min (altogether (limits xs) + x .limit) 1000000
 
-    abbrev m : ℕ
-    m = sizeM plan
-
-    abbrev n : ℕ
-    n = sizeN plan
-
-    abbrev L : ℕ
-    L = lengths plan
-
-    abbrev N : ℕ
-    N = exactOf plan
-
     few : total ≤ 1000000
     few = omega arith
 
@@ -77,8 +64,8 @@ module _ (plan : List ℕ) (well : WellFormed plan) where
     of-figure P = subst P (sym (sittings-as-figure .1))
 
     -- demand 2: low × S^(m+2L) ≤ S × N ≤ high × S^(m+2L), also when steps run out
-    pub sitting-encloses : (lowIn after * S ^ (m + 2 * L) ≤ S * N) × (S * N ≤ highIn after * S ^ (m + 2 * L))
-    sitting-encloses = of-figure (λ b. (lowIn b * S ^ (m + 2 * L) ≤ S * N) × (S * N ≤ highIn b * S ^ (m + 2 * L))) (figure-encloses plan total (x .answer) zero)
+    pub sitting-encloses : Encloses plan after
+    sitting-encloses = of-figure (Encloses plan) (figure-encloses plan total (x .answer) zero)
 
     -- demand 3: the step count equals the smaller of the splits needed and the total
     pub sitting-steps : stepsIn after ≡ min (needed (planOf plan)) total
@@ -89,8 +76,8 @@ module _ (plan : List ℕ) (well : WellFormed plan) where
     sitting-marked = of-figure (λ b. Marked (finishedIn b) (needed (planOf plan)) total) (figure-marked plan total (x .answer) zero)
 
     -- demand 3: a finished pair is at most 2m + 4n + 4L wide, however many splits and sittings it took
-    pub sitting-width : finishedIn after ≡ 1 → highIn after ≤ lowIn after + (2 * m + 4 * n + 4 * L)
-    sitting-width = of-figure (λ b. finishedIn b ≡ 1 → highIn b ≤ lowIn b + (2 * m + 4 * n + 4 * L)) (figure-width plan total (x .answer) zero)
+    pub sitting-width : Narrow plan after
+    sitting-width = of-figure (Narrow plan) (figure-width plan total (x .answer) zero)
 
     pub sitting-range : (lowIn after ≤ highIn after) × (highIn after ≤ S)
     sitting-range = of-figure (λ b. (lowIn b ≤ highIn b) × (highIn b ≤ S)) (figure-range plan total (x .answer) zero)

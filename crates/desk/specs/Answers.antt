@@ -1,5 +1,5 @@
 -- How an answer is read back, and the words in which the demands speak of an outcome.
-use Prim.Native.Nat.{ℕ, _≤_, _<_}
+use Prim.Native.Nat.{ℕ, _+_, _*_, _^_, _≤_, _<_}
 use mathlib.Core.Path.{_≡_}
 use mathlib.Core.List.{List}
 use mathlib.Core.Logic.{_↔_}
@@ -8,7 +8,10 @@ use lib.Dec.{ltb}
 use lib.IntN.{ℤ, pos, _-ℤ_}
 use lib.ListN.{length, drop}
 use lib.Signed.{_≤ℤ_}
+use Rattle.rounding.specs.Rounding.{S}
 use Rattle.reliability.specs.declared.Difference.{Difference}
+use Rattle.plan.specs.Plans.{sizeN, sizeM}
+use Rattle.plan.specs.Weights.{exactOf, lengths}
 use Rattle.answers.specs.Answers.{lowIn, highIn, stepsIn, finishedIn}
 use Rattle.desk.specs.Outcomes.{Outcome}
 
@@ -31,6 +34,15 @@ pub record LiesWithin (second first : List ℕ) : Type 0 where
 pub record LiesWithinSigned (second first : List ℕ) : Type 0 where
   pub low : signed (lowIn first) ≤ℤ signed (lowIn second)
   pub high : signed (highIn second) ≤ℤ signed (highIn first)
+
+-- a pair encloses the exact reliability of a plan, N over S^(m+2L)
+pub record Encloses (plan b : List ℕ) : Type 0 where
+  pub low : lowIn b * S ^ (sizeM plan + 2 * lengths plan) ≤ S * exactOf plan
+  pub high : S * exactOf plan ≤ highIn b * S ^ (sizeM plan + 2 * lengths plan)
+
+-- a finished pair is at most 2m + 4n + 4L wide
+abbrev pub Narrow : (plan b : List ℕ) → Type 0
+Narrow plan b = finishedIn b ≡ 1 → highIn b ≤ lowIn b + (2 * sizeM plan + 4 * sizeN plan + 4 * lengths plan)
 
 -- finished, 1, where no more splits are needed than the limit, and unfinished, 0, where more are
 pub record Marked (mark needed limit : ℕ) : Type 0 where
