@@ -148,6 +148,16 @@ impl Plan {
             links,
         }
     }
+
+    /// The same plan with lengths for so many of ten links.
+    pub fn with_lengths(mut self, random: &mut Random, of_ten: usize) -> Plan {
+        for link in &mut self.links {
+            if random.below(10) < of_ten {
+                link.value = LENGTH + random_length(random);
+            }
+        }
+        self
+    }
 }
 
 /// Pairs of nodes, each once before any comes again.
@@ -190,6 +200,15 @@ fn random_value(random: &mut Random) -> u32 {
         5 => random.of_any_size(most) as u32,
         6 | 7 => S - random.of_any_size(most) as u32,
         _ => random.up_to(most) as u32,
+    }
+}
+
+fn random_length(random: &mut Random) -> u32 {
+    match random.below(6) {
+        0 => 0,
+        1 => 511,
+        2 => random.of_any_size(511) as u32,
+        _ => random.below(512) as u32,
     }
 }
 

@@ -110,7 +110,11 @@ fn merged(groups: Groups, [a, b]: [u8; 2]) -> Groups {
 fn sum(links: &[([u8; 2], [u128; 2])], nodes: usize, groups: Groups) -> Whole {
     let Some(((ends, [sound, broken]), others)) = links.split_first() else {
         let connected = groups[..nodes].iter().all(|g| *g == 0);
-        return Whole(vec![1; usize::from(connected)]);
+        return if connected {
+            Whole::one()
+        } else {
+            Whole::zero()
+        };
     };
     let if_sound = sum(others, nodes, merged(groups, *ends)).times(*sound);
     let if_broken = sum(others, nodes, groups).times(*broken);
