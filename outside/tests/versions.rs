@@ -130,7 +130,7 @@ fn plans_of_lengths() {
         let plan = Plan::random_of(&mut random, nodes, 64).with_lengths(&mut random, 10);
         tried.hold(&plan, &[0, 1, 50, 400]);
     }
-    assert!(tried.least() > 500, "too few of a kind: {tried:?}");
+    assert!(tried.least() > 300, "too few of a kind: {tried:?}");
 }
 
 /// Each number of nodes with each number of links.
