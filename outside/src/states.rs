@@ -1,5 +1,5 @@
-//! Exact figures: sums over all states of the links, in whole numbers of any size. A value in units is a whole number of parts of S,
-//! a length with its two joints of parts of S^3.
+//! Exact figures: sums over all states of the links, in whole numbers of any size. The chance of a link given in units is counted in
+//! parts of which S make one, that of a length with its two joints in parts of which S^3 do.
 
 use crate::arithmetic::{JOINT, S};
 use crate::plans::{Link, Plan};
@@ -76,7 +76,7 @@ impl PartialOrd for Whole {
     }
 }
 
-/// The power of S that one is in the parts of this link.
+/// The power of S that makes one in the parts of this link.
 fn power(link: &Link) -> u32 {
     match link.rating() {
         Some(_) => 3,
@@ -89,7 +89,7 @@ fn powers(plan: &Plan) -> usize {
     plan.links.iter().map(|link| power(link) as usize).sum()
 }
 
-/// How many parts the link is sound with, and how many broken.
+/// The chances that the link is sound and that it is broken, in its parts.
 fn weights(link: &Link) -> [u128; 2] {
     let sound = match link.rating() {
         Some(rating) => u128::from(rating) * u128::from(JOINT) * u128::from(JOINT),

@@ -386,6 +386,11 @@ fn any_plan(random: &mut Random, most_links: usize, most_splits: u64) -> Plan {
     }
 }
 
+/// Whether an answer is no wider than it may be where it is finished.
+fn is_narrow(answer: &Answer, widest: i64) -> bool {
+    answer.low <= answer.high && (!answer.finished || answer.high - answer.low <= widest)
+}
+
 /// Each call on plans of more links than are summed over, held to the rule.
 #[test]
 fn the_calls_on_random_plans() {
@@ -398,10 +403,14 @@ fn the_calls_on_random_plans() {
         lengths_alone += usize::from(plan.lengths() == plan.links.len());
         with_splits += usize::from(needed > 1);
         for limit in limits_around(needed) {
-            figure(&plan, limit);
-            importance(&plan, random.below(plan.links.len()) as u64, limit);
-            difference(&plan, &before, limit);
-            difference(&before, &plan, limit);
+            assert!(is_narrow(&figure(&plan, limit), widest(&plan)));
+            let place = random.below(plan.links.len());
+            let both = importance(&plan, place as u64, limit);
+            assert!(is_narrow(&both, widest_importance(&plan, place)));
+            for (a, b) in [(&plan, &before), (&before, &plan)] {
+                let both = difference(a, b, limit);
+                assert!(is_narrow(&both, widest_difference(a, b)));
+            }
             let first = sat(&plan.bytes(), limit, &NOTHING);
             sat(&plan.bytes(), random.up_to(needed), &first.work);
         }
@@ -429,6 +438,26 @@ fn the_calls_on_plans_of_64_links() {
     }
 }
 
+/// Complete graphs at the splits that they need and at one less, in one run and in two sittings.
+#[test]
+fn the_calls_on_complete_graphs() {
+    let mut random = Random::new(162);
+    for (nodes, needed) in [(7, 119), (8, 722), (9, 5_054), (10, 40_528)] {
+        let mut plan = || Plan::complete(nodes, 0).with_lengths(&mut random, 10);
+        let (a, b) = (plan(), plan());
+        for limit in [needed - 1, needed] {
+            let whole = figure(&a, limit);
+            assert_eq!((whole.steps, whole.finished), (limit, limit == needed));
+            assert!(is_narrow(&whole, widest(&a)));
+            assert_eq!(difference(&a, &b, limit).steps, 2 * limit);
+            assert!(importance(&a, 5, limit).finished);
+            let half = sat(&a.bytes(), limit / 2, &NOTHING);
+            let rest = sat(&a.bytes(), limit - limit / 2, &half.work);
+            assert_eq!(sat_answer(&rest), whole);
+        }
+    }
+}
+
 /// 0, 1, around the splits needed, and above, in ascending order.
 fn limits(needed: u64) -> Vec<u64> {
     let mut limits = limits_around(needed);
@@ -442,8 +471,7 @@ fn limits(needed: u64) -> Vec<u64> {
 fn hold_answers(exact: &Exact, answers: &[Answer], widest: i64) {
     for answer in answers {
         assert!(exact.is_enclosed_by(answer), "{answer:?}");
-        let narrow = answer.high - answer.low <= widest;
-        assert!(!answer.finished || narrow, "{answer:?} {widest}");
+        assert!(is_narrow(answer, widest), "{answer:?} {widest}");
     }
     for pair in answers.windows(2) {
         let nested = pair[0].low <= pair[1].low && pair[1].high <= pair[0].high;
