@@ -1,6 +1,6 @@
-/* The figure, the importance, the difference and the sitting by the rule in C, with one slip of the choice or of the joints or none:
-   what the kinds of c/slips.c from 90 on put in the place of the library. Nothing is proved of it. That it passes all tests without
-   a slip is tried before the slips are. */
+/* The figure, the importance, the difference and the sitting by the rule in C, with one slip of the choice or of the joints or
+   none: what the kinds of c/slips.c from 90 on put in the place of the library. Nothing is proved of it. That it passes all tests
+   without a slip is tried before the slips are. */
 
 #include "in_c.h"
 

@@ -54,7 +54,7 @@ enum {
     LAST_LINK_BARE,      /* the last link of the plan has no joint */
 };
 
-/* A slip of the joints may be made in one place alone: behind the slip's last two digits stands the place, or 0 for all. */
+/* A slip of the joints may be made in one place alone, whose number stands before the slip's last two digits. */
 enum { EVERYWHERE, IN_FIGURE, IN_IMPORTANCE, IN_PLAN_A, IN_PLAN_B, IN_SITTING, IN_CARRIED };
 
 uint64_t in_c_figure(long slip, const uint8_t *plan, size_t plan_len, uint64_t limit, uint8_t *answer, size_t answer_len);

@@ -1,5 +1,5 @@
-//! Exact figures: sums over all states of the links, in whole numbers of any size. The chance of a link given in units is counted in
-//! parts of which S make one, that of a length with its two joints in parts of which S^3 do.
+//! Exact figures: sums over all states of the links, in whole numbers of any size. The chance of a link given in units is counted
+//! in parts of which S make one, that of a length with its two joints in parts of which S^3 do.
 
 use crate::arithmetic::{JOINT, S};
 use crate::plans::{Link, Plan};

@@ -1,5 +1,5 @@
-//! Lengths and their joints: the values of all 512 lengths through each call, worked out apart; and plans of lengths, alone and among
-//! values in units, against the rule, against exact sums and against numbers that are known.
+//! Lengths and their joints: the values of all 512 lengths through each call, worked out apart; and plans of lengths, alone and
+//! among values in units, against the rule, against exact sums and against numbers that are known.
 
 use outside::arithmetic::S;
 use outside::calls::{answer_bytes, answer_of, held, limits_around, Call, MOST_STEPS};
@@ -323,8 +323,8 @@ fn path(nodes: u8) -> Vec<[u8; 2]> {
     (1..nodes).map(|v| [v - 1, v]).collect()
 }
 
-/// Exact figures worked out apart, in fractions: (T * J * J / S^3)^16 of the long path, 16 p^3 q^3 + 15 p^4 q^2 + 6 p^5 q + p^6 of the
-/// four nodes, and so on.
+/// Exact figures worked out apart, in fractions: (T * J * J / S^3)^16 of the long path, 16 p^3 q^3 + 15 p^4 q^2 + 6 p^5 q + p^6 of
+/// the four nodes, and so on.
 #[test]
 fn exact_figures_that_are_known() {
     let four = Plan::complete(4, LENGTH + 25);
