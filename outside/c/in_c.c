@@ -1,6 +1,6 @@
-/* The figure, the importance, the difference and the sitting by the rule in C, with one slip of the choice or none: what the kinds
-   of c/slips.c from 90 on put in the place of the library. Nothing is proved of it. That it passes all tests without a slip is
-   tried before the slips are. */
+/* The figure, the importance, the difference and the sitting by the rule in C, with one slip of the choice or of the joints or
+   none: what the kinds of c/slips.c from 90 on put in the place of the library. Nothing is proved of it. That it passes all tests
+   without a slip is tried before the slips are. */
 
 #include "in_c.h"
 
@@ -11,6 +11,8 @@
 
 #define MOST_OPEN 64
 #define MOST_STEPS 1000000
+#define LENGTH 2147483648u
+#define JOINT 999950000ull
 
 uint64_t proved_check(const uint8_t *plan, size_t plan_len);
 
@@ -35,24 +37,94 @@ static void put(uint8_t *at, uint32_t number)
         at[i] = number >> 8 * i;
 }
 
-static uint32_t units(uint32_t value)
+/* The slip as it is in this place. */
+static long slip_in(long slip, long place)
+{
+    return slip / 100 == EVERYWHERE || slip / 100 == place ? slip % 100 : NO_SLIP;
+}
+
+static uint32_t rating(uint32_t length)
 {
     uint64_t chance = S;
-    if (value <= S)
-        return value;
-    for (uint32_t k = value - 2147483648u; k > 0; k--)
+    while (length-- > 0)
         chance = chance * 999700000 / S;
     return chance;
 }
 
+/* Whether a slip leaves link i of m without joints. */
+static bool is_bare(long slip, uint32_t value, int i, int m)
+{
+    switch (slip) {
+    case NO_JOINTS_AT_0:
+        return value == LENGTH;
+    case NO_JOINTS_AT_1:
+        return value == LENGTH + 1;
+    case NO_JOINTS_AT_511:
+        return value == LENGTH + 511;
+    case NO_JOINTS_FROM_256:
+        return value >= LENGTH + 256;
+    case FIRST_LINK_BARE:
+        return i == 0;
+    case LAST_LINK_BARE:
+        return i == m - 1;
+    default:
+        return slip == NO_JOINTS;
+    }
+}
+
+/* How many joints a length has. */
+static int joints_of(long slip, bool is_high)
+{
+    switch (slip) {
+    case ONE_JOINT:
+        return 1;
+    case THREE_JOINTS:
+        return 3;
+    case LOW_ALONE:
+        return is_high ? 0 : 2;
+    case HIGH_ALONE:
+        return is_high ? 2 : 0;
+    default:
+        return 2;
+    }
+}
+
+/* Whether what a joint leaves is rounded up. */
+static bool rounds_up(long slip, bool is_high, bool is_first)
+{
+    if (is_high)
+        return slip != HIGH_DOWN && !(slip == HIGH_FIRST_DOWN && is_first);
+    return slip == LOW_UP || (slip == LOW_FIRST_UP && is_first);
+}
+
+/* The chance with its joints. */
+static uint32_t with_joints(long slip, uint64_t chance, bool is_high)
+{
+    uint64_t joint = JOINT - (slip == JOINT_LESS) + (slip == JOINT_MORE);
+    if (slip == ROUNDED_ONCE)
+        return ((wide)chance * JOINT * JOINT + (is_high ? S * S - 1 : 0)) / (S * S);
+    for (int i = 0; i < joints_of(slip, is_high); i++)
+        chance = rounds_up(slip, is_high, i == 0) ? up(chance * joint) : down(chance * joint);
+    return chance;
+}
+
+/* The low and the high value of link i of m. */
+static Pair values_of(long slip, uint32_t value, int i, int m)
+{
+    uint32_t chance = value < LENGTH ? value : rating(value - LENGTH);
+    if (is_bare(slip, value, i, m) || (value < LENGTH && slip != JOINTS_ON_UNITS))
+        return (Pair){chance, chance};
+    uint32_t low = with_joints(slip, chance, false), high = with_joints(slip, chance, true);
+    return (Pair){slip == HIGH_FOR_BOTH ? high : low, slip == LOW_FOR_BOTH ? low : high};
+}
+
 /* An accepted plan's network. */
-static Network network_of(const uint8_t *plan)
+static Network network_of(long slip, const uint8_t *plan)
 {
     Network g = {0};
     int m = plan[2];
     for (int i = 0; i < m; i++) {
         int a = plan[4 + 2 * i], b = plan[5 + 2 * i];
-        uint32_t value = units(word(plan + 4 + 2 * m + 4 * i));
         if (a == b)
             continue;
         g.links |= link_bit(i);
@@ -60,7 +132,7 @@ static Network network_of(const uint8_t *plan)
         g.at[b] |= link_bit(i);
         g.ends[i][0] = a;
         g.ends[i][1] = b;
-        g.values[i] = (Pair){value, value};
+        g.values[i] = values_of(slip, word(plan + 4 + 2 * m + 4 * i), i, m);
     }
     for (int v = 0; v < MOST_NODES; v++)
         tally(&g, v);
@@ -278,7 +350,7 @@ uint64_t in_c_figure(long slip, const uint8_t *plan, size_t plan_len, uint64_t l
     uint64_t refused = asked(plan, plan_len, limit, answer_len);
     if (refused != 0)
         return refused;
-    Figure f = worked(&r, network_of(plan), nodes_of(plan), limit);
+    Figure f = worked(&r, network_of(slip_in(slip, IN_FIGURE), plan), nodes_of(plan), limit);
     put_answer(answer, f.low, f.high, f.steps, f.finished);
     return 0;
 }
@@ -296,7 +368,7 @@ uint64_t in_c_importance(long slip, const uint8_t *plan, size_t plan_len, uint64
     uint64_t refused = asked(plan, plan_len, limit, answer_len);
     if (refused != 0 || place >= plan[2])
         return refused != 0 ? refused : 8;
-    Network broken = network_of(plan), sound = broken;
+    Network broken = network_of(slip_in(slip, IN_IMPORTANCE), plan), sound = broken;
     uint32_t nodes = nodes_of(plan), left = nodes;
     if (broken.links & link_bit(place)) {
         const uint8_t *ends = broken.ends[place];
@@ -324,8 +396,8 @@ uint64_t in_c_difference(long slip, const uint8_t *plan_a, size_t plan_a_len, co
     refused = proved_check(plan_b, plan_b_len);
     if (refused != 0)
         return refused + 20;
-    Figure a = worked(&r, network_of(plan_a), nodes_of(plan_a), limit);
-    Figure b = worked(&r, network_of(plan_b), nodes_of(plan_b), limit);
+    Figure a = worked(&r, network_of(slip_in(slip, IN_PLAN_A), plan_a), nodes_of(plan_a), limit);
+    Figure b = worked(&r, network_of(slip_in(slip, IN_PLAN_B), plan_b), nodes_of(plan_b), limit);
     put_difference(answer, a, b, true);
     return 0;
 }
@@ -384,7 +456,8 @@ uint64_t in_c_sitting(long slip, const uint8_t *plan, size_t plan_len, uint64_t 
         return refused;
     if (!well_formed(&r, saved, saved_len))
         return 10;
-    Network g = network_of(plan);
+    long place = r.count > 0 && slip / 100 == IN_CARRIED ? IN_CARRIED : IN_SITTING;
+    Network g = network_of(slip_in(slip, place), plan);
     count_links(&r, &g);
     if (!traced(&r, g, nodes_of(plan)))
         return 11;

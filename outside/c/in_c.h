@@ -1,4 +1,4 @@
-/* The calls by the rule in C (in_c.c), and the slips of the choice that they may have. */
+/* The calls by the rule in C (in_c.c), and the slips of the choice and of the joints that they may have. */
 
 #ifndef IN_C_H
 #define IN_C_H
@@ -31,7 +31,31 @@ enum {
     PLAN_PLACE_WRITTEN,  /* the place in the plan is written */
     FOUR_BIT_COUNTS,     /* the counts are kept in four bits */
     FIVE_BIT_SUMS,       /* the sums are kept in five bits */
+    NO_JOINTS,           /* a length has no joint */
+    ONE_JOINT,           /* a length has one joint */
+    THREE_JOINTS,        /* a length has three joints */
+    ROUNDED_ONCE,        /* both joints are worked first, and then rounded */
+    HIGH_DOWN,           /* high is rounded down */
+    LOW_UP,              /* low is rounded up */
+    HIGH_FIRST_DOWN,     /* high is rounded down after the first joint */
+    LOW_FIRST_UP,        /* low is rounded up after the first joint */
+    LOW_FOR_BOTH,        /* high is low */
+    HIGH_FOR_BOTH,       /* low is high */
+    LOW_ALONE,           /* high has no joint */
+    HIGH_ALONE,          /* low has no joint */
+    JOINTS_ON_UNITS,     /* values in units have joints */
+    NO_JOINTS_AT_0,      /* length 0 has no joint */
+    NO_JOINTS_AT_1,      /* length 1 has no joint */
+    NO_JOINTS_AT_511,    /* length 511 has no joint */
+    NO_JOINTS_FROM_256,  /* lengths from 256 on have no joint */
+    JOINT_LESS,          /* J is one less */
+    JOINT_MORE,          /* J is one more */
+    FIRST_LINK_BARE,     /* the first link of the plan has no joint */
+    LAST_LINK_BARE,      /* the last link of the plan has no joint */
 };
+
+/* A slip of the joints may be made in one place alone, whose number stands before the slip's last two digits. */
+enum { EVERYWHERE, IN_FIGURE, IN_IMPORTANCE, IN_PLAN_A, IN_PLAN_B, IN_SITTING, IN_CARRIED };
 
 uint64_t in_c_figure(long slip, const uint8_t *plan, size_t plan_len, uint64_t limit, uint8_t *answer, size_t answer_len);
 uint64_t in_c_importance(long slip, const uint8_t *plan, size_t plan_len, uint64_t place, uint64_t limit, uint8_t *answer,

@@ -298,8 +298,8 @@ static Figure work(Network *g, uint64_t paired, uint64_t limit)
     return f;
 }
 
-/* The figure of a plan with n nodes and m links. Each link has two ends and a value in units. */
-Figure rule_figure(uint32_t n, uint32_t m, const uint8_t *ends, const uint32_t *values, uint64_t limit)
+/* The figure of a plan with n nodes and m links. Each link has two ends, and a low and a high value in units. */
+Figure rule_figure(uint32_t n, uint32_t m, const uint8_t *ends, const Pair *values, uint64_t limit)
 {
     Network g = {0};
     for (uint32_t i = 0; i < m; i++) {
@@ -311,7 +311,7 @@ Figure rule_figure(uint32_t n, uint32_t m, const uint8_t *ends, const uint32_t *
         g.at[b] |= link_bit(i);
         g.ends[i][0] = a;
         g.ends[i][1] = b;
-        g.values[i] = (Pair){values[i], values[i]};
+        g.values[i] = values[i];
     }
     for (uint32_t v = 0; v < n; v++)
         tally(&g, v);

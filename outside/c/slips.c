@@ -4,7 +4,7 @@
    SLIP is the number of a kind and eight more numbers. Of kinds 0 and 1: the call (0 check, 1 figure, 2 importance,
    3 difference, 4 sitting), what is wrong, by how much; and where: of an answer (kind 0) the least and the most links, whether
    it is finished, the least and the most steps; of a refusal (kind 1) its number without the link. Of kinds 70 to 83 the
-   call, and of kind 76 a count. Of kind 90 a slip of the choice, made in calls in C. Of other kinds: none. */
+   call, and of kind 76 a count. Of kind 90 a slip of the choice or of the joints, made in calls in C. Of other kinds: none. */
 
 #include "in_c.h"
 #include "plandesk.h"

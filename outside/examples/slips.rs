@@ -291,10 +291,59 @@ fn of_choice() -> Vec<Slip> {
     numbered.map(slip).collect()
 }
 
+/// Slips of the joints, in the order of their numbers in `c/in_c.h`, which go on from those of the choice.
+const OF_JOINTS: [&str; 21] = [
+    "none",
+    "one alone",
+    "three",
+    "rounded once, at the end",
+    "high rounded down",
+    "low rounded up",
+    "high rounded down after the first",
+    "low rounded up after the first",
+    "low for both",
+    "high for both",
+    "for low alone",
+    "for high alone",
+    "on values in units",
+    "none at length 0",
+    "none at length 1",
+    "none at length 511",
+    "none from length 256 on",
+    "J one less",
+    "J one more",
+    "none at the first link",
+    "none at the last link",
+];
+
+/// Where a slip of the joints may be made alone, in the order of these places' numbers in `c/in_c.h`.
+const PLACES: [&str; 6] = [
+    "a figure",
+    "an importance",
+    "a difference's plan A",
+    "a difference's plan B",
+    "a sitting",
+    "a sitting that carries on",
+];
+
+/// Each slip everywhere and in each place.
+fn of_joints() -> Vec<Slip> {
+    let mut slips = Vec::new();
+    for (number, name) in (OF_CHOICE.len() as i64 + 1..).zip(OF_JOINTS) {
+        slips.push(slip(format!("joints: {name}"), &[IN_C, number]));
+        for (place, of) in (1..).zip(PLACES) {
+            let numbers = [IN_C, 100 * place + number];
+            slips.push(slip(format!("joints: {name}, in {of}"), &numbers));
+        }
+    }
+    slips
+}
+
 fn slips() -> Vec<Slip> {
     let mut slips = of_refusals();
     slips.extend(of_calls());
     slips.extend(of_choice());
+    slips.extend(of_joints());
     slips.extend(OTHERS.map(|(kind, name)| slip(name.into(), &[kind])));
     slips.extend(of_answers());
     slips

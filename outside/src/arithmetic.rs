@@ -1,7 +1,10 @@
-//! Directed rounding and the table of ratings, worked in 128-bit numbers from the definitions alone.
+//! Directed rounding, the table of ratings and the joints, worked in 128-bit numbers from the definitions alone.
 
 /// One, in units.
 pub const S: u32 = 1_000_000_000;
+
+/// J, the chance that one joint is sound, in units.
+pub const JOINT: u32 = 999_950_000;
 
 const WHOLE: u128 = S as u128;
 
@@ -85,6 +88,12 @@ pub fn long_division(x: u64, w: u64) -> (u64, u64, u64) {
         u64::try_from(remainder).expect("a remainder is below w"),
         digits(x, w),
     )
+}
+
+/// The value of a length of this rating: a joint at each of its two ends, rounded after each.
+pub fn joints(side: Side, rating: u32) -> u32 {
+    let joint = |value: u32| rounded(side, u128::from(value) * u128::from(JOINT), WHOLE);
+    joint(joint(rating))
 }
 
 /// The whole table T.

@@ -7,21 +7,21 @@ use crate::rule::{Choice, Figure};
 mod c {
     use crate::rule::Figure;
 
-    pub type Rule = unsafe extern "C" fn(u32, u32, *const u8, *const u32, u64) -> Figure;
+    pub type Rule = unsafe extern "C" fn(u32, u32, *const u8, *const [u32; 2], u64) -> Figure;
 
     extern "C" {
         pub fn rule_figure(
             n: u32,
             m: u32,
             ends: *const u8,
-            values: *const u32,
+            values: *const [u32; 2],
             limit: u64,
         ) -> Figure;
         pub fn rule_figure_first_link(
             n: u32,
             m: u32,
             ends: *const u8,
-            values: *const u32,
+            values: *const [u32; 2],
             limit: u64,
         ) -> Figure;
     }
@@ -41,7 +41,7 @@ pub fn figure_by(choice: Choice, plan: &Plan, limit: u64) -> Figure {
     assert_eq!(read(&plan.bytes()).as_ref(), Ok(plan));
     let (n, m) = (plan.nodes.into(), plan.links.len() as u32);
     let ends: Vec<u8> = plan.links.iter().flat_map(|link| link.ends).collect();
-    let values: Vec<u32> = plan.links.iter().map(Link::units).collect();
-    // SAFETY: the plan is accepted, and there are 2 * m ends and m values.
+    let values: Vec<[u32; 2]> = plan.links.iter().map(Link::values).collect();
+    // SAFETY: the plan is accepted, and there are 2 * m ends and m pairs of values.
     unsafe { rule(n, m, ends.as_ptr(), values.as_ptr(), limit) }
 }

@@ -1,6 +1,6 @@
 //! A plan as data, and its bytes; random plans; damage.
 
-use crate::arithmetic::{ratings, S};
+use crate::arithmetic::{joints, ratings, S, SIDES};
 use crate::random::Random;
 use std::sync::LazyLock;
 
@@ -8,6 +8,12 @@ use std::sync::LazyLock;
 pub const LENGTH: u32 = 1 << 31;
 
 static RATINGS: LazyLock<Vec<u32>> = LazyLock::new(ratings);
+
+/// The values of the lengths, low and high.
+static LENGTHS: LazyLock<Vec<[u32; 2]>> = LazyLock::new(|| {
+    let both = |rating: &u32| SIDES.map(|side| joints(side, *rating));
+    RATINGS.iter().map(both).collect()
+});
 
 /// A link as the file has it.
 #[derive(Clone, Copy, Debug, PartialEq, Eq)]
@@ -17,11 +23,17 @@ pub struct Link {
 }
 
 impl Link {
-    /// The chance in units that the value stands for.
-    pub fn units(&self) -> u32 {
+    /// The rating T of a length; none of a value in units.
+    pub fn rating(&self) -> Option<u32> {
+        let length = self.value.checked_sub(LENGTH)?;
+        Some(RATINGS[length as usize])
+    }
+
+    /// The low and the high value in units: of a length with its two joints, of a value in units that value.
+    pub fn values(&self) -> [u32; 2] {
         match self.value.checked_sub(LENGTH) {
-            Some(k) => RATINGS[k as usize],
-            None => self.value,
+            Some(length) => LENGTHS[length as usize],
+            None => [self.value; 2],
         }
     }
 }
@@ -52,6 +64,12 @@ impl Plan {
             nodes,
             links: ends.iter().map(link).collect(),
         }
+    }
+
+    /// How many of its links are given by length.
+    pub fn lengths(&self) -> usize {
+        let ratings = self.links.iter().filter_map(Link::rating);
+        ratings.count()
     }
 
     pub fn bytes(&self) -> Vec<u8> {
@@ -130,6 +148,16 @@ impl Plan {
             links,
         }
     }
+
+    /// The same plan with lengths for so many of ten links.
+    pub fn with_lengths(mut self, random: &mut Random, of_ten: usize) -> Plan {
+        for link in &mut self.links {
+            if random.below(10) < of_ten {
+                link.value = LENGTH + random_length(random);
+            }
+        }
+        self
+    }
 }
 
 /// Pairs of nodes, each once before any comes again.
@@ -172,6 +200,15 @@ fn random_value(random: &mut Random) -> u32 {
         5 => random.of_any_size(most) as u32,
         6 | 7 => S - random.of_any_size(most) as u32,
         _ => random.up_to(most) as u32,
+    }
+}
+
+fn random_length(random: &mut Random) -> u32 {
+    match random.below(6) {
+        0 => 0,
+        1 => 511,
+        2 => random.of_any_size(511) as u32,
+        _ => random.below(512) as u32,
     }
 }
 

@@ -112,10 +112,10 @@ pub struct Answer {
 
 impl From<&Plan> for Network {
     fn from(plan: &Plan) -> Network {
-        let link = |l: &crate::plans::Link| Link {
-            ends: l.ends,
-            low: l.units(),
-            high: l.units(),
+        let link = |l: &crate::plans::Link| {
+            let [low, high] = l.values();
+            let ends = l.ends;
+            Link { ends, low, high }
         };
         Network {
             nodes: (0..plan.nodes as u8).collect(),

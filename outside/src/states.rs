@@ -1,54 +1,72 @@
-//! Exact figures: sums over all states of the links, in whole numbers of any size.
+//! Exact figures: sums over all states of the links, in whole numbers of any size. The chance of a link given in units is counted
+//! in parts of which S make one, that of a length with its two joints in parts of which S^3 do.
 
-use crate::arithmetic::S;
-use crate::plans::Plan;
+use crate::arithmetic::{JOINT, S};
+use crate::plans::{Link, Plan};
 use crate::rule::Answer;
 use std::cmp::Ordering;
 
 /// The most links that are summed over.
 pub const MOST: usize = 16;
 
-/// A number of 1,024 bits, the lowest 64 first: two plans' powers of S, and one more, take under 990.
-#[derive(Clone, Copy, Debug, PartialEq, Eq)]
-struct Whole([u64; 16]);
+/// A number by its digits of 32 bits, the lowest first and the highest not 0.
+#[derive(Clone, Debug, PartialEq, Eq)]
+struct Whole(Vec<u32>);
 
 impl Whole {
-    fn from(x: u64) -> Whole {
-        let mut digits = [0; 16];
-        digits[0] = x;
+    fn zero() -> Whole {
+        Whole(Vec::new())
+    }
+
+    fn one() -> Whole {
+        Whole(vec![1])
+    }
+
+    fn plus(&self, other: &Whole) -> Whole {
+        let count = self.0.len().max(other.0.len());
+        let mut digits = Vec::with_capacity(count + 1);
+        let digit = |x: &Whole, i: usize| u64::from(x.0.get(i).copied().unwrap_or(0));
+        let mut carry = 0;
+        for i in 0..count {
+            let sum = digit(self, i) + digit(other, i) + carry;
+            digits.push(sum as u32);
+            carry = sum >> 32;
+        }
+        if carry > 0 {
+            digits.push(carry as u32);
+        }
         Whole(digits)
     }
 
-    fn plus(mut self, other: &Whole) -> Whole {
-        let mut carry = 0;
-        for (x, y) in self.0.iter_mut().zip(other.0) {
-            let sum = u128::from(*x) + u128::from(y) + carry;
-            *x = sum as u64;
-            carry = sum >> 64;
+    /// The factor is below 2^96, so that a digit's product and the carry fit in 128 bits.
+    fn times(&self, factor: u128) -> Whole {
+        assert!(factor >> 96 == 0, "a factor past 96 bits");
+        if factor == 0 || self.0.is_empty() {
+            return Whole::zero();
         }
-        assert_eq!(carry, 0, "a sum past 1,024 bits");
-        self
+        let mut digits = Vec::with_capacity(self.0.len() + 3);
+        let mut carry = 0;
+        for digit in &self.0 {
+            let product = u128::from(*digit) * factor + carry;
+            digits.push(product as u32);
+            carry = product >> 32;
+        }
+        while carry > 0 {
+            digits.push(carry as u32);
+            carry >>= 32;
+        }
+        Whole(digits)
     }
 
-    fn times(mut self, factor: u64) -> Whole {
-        let mut carry = 0;
-        for x in &mut self.0 {
-            let product = u128::from(*x) * u128::from(factor) + carry;
-            *x = product as u64;
-            carry = product >> 64;
-        }
-        assert_eq!(carry, 0, "a product past 1,024 bits");
-        self
-    }
-
-    fn times_power_of_s(self, exponent: usize) -> Whole {
-        (0..exponent).fold(self, |x, _| x.times(S.into()))
+    fn times_power_of_s(&self, exponent: usize) -> Whole {
+        (0..exponent).fold(self.clone(), |x, _| x.times(S.into()))
     }
 }
 
 impl Ord for Whole {
     fn cmp(&self, other: &Whole) -> Ordering {
-        self.0.iter().rev().cmp(other.0.iter().rev())
+        let lengths = self.0.len().cmp(&other.0.len());
+        lengths.then_with(|| self.0.iter().rev().cmp(other.0.iter().rev()))
     }
 }
 
@@ -56,6 +74,28 @@ impl PartialOrd for Whole {
     fn partial_cmp(&self, other: &Whole) -> Option<Ordering> {
         Some(self.cmp(other))
     }
+}
+
+/// The power of S that makes one in the parts of this link.
+fn power(link: &Link) -> u32 {
+    match link.rating() {
+        Some(_) => 3,
+        None => 1,
+    }
+}
+
+/// The same of all links of a plan together.
+fn powers(plan: &Plan) -> usize {
+    plan.links.iter().map(|link| power(link) as usize).sum()
+}
+
+/// The chances that the link is sound and that it is broken, in its parts.
+fn weights(link: &Link) -> [u128; 2] {
+    let sound = match link.rating() {
+        Some(rating) => u128::from(rating) * u128::from(JOINT) * u128::from(JOINT),
+        None => link.value.into(),
+    };
+    [sound, u128::from(S).pow(power(link)) - sound]
 }
 
 /// Which nodes hang together: the lowest node of each one's group.
@@ -66,29 +106,29 @@ fn merged(groups: Groups, [a, b]: [u8; 2]) -> Groups {
     groups.map(|g| if g == x.max(y) { x.min(y) } else { g })
 }
 
-/// The sum over the states of the links from `place` on, those before it having made the groups and the product.
-fn sum(plan: &Plan, place: usize, groups: Groups, product: Whole) -> Whole {
-    let Some(link) = plan.links.get(place) else {
-        let connected = groups[..plan.nodes.into()].iter().all(|g| *g == 0);
-        return if connected { product } else { Whole::from(0) };
+/// The sum over the states of these links, those before them having made the groups of so many nodes.
+fn sum(links: &[([u8; 2], [u128; 2])], nodes: usize, groups: Groups) -> Whole {
+    let Some(((ends, [sound, broken]), others)) = links.split_first() else {
+        let connected = groups[..nodes].iter().all(|g| *g == 0);
+        return if connected {
+            Whole::one()
+        } else {
+            Whole::zero()
+        };
     };
-    let value = link.units();
-    let sound = sum(
-        plan,
-        place + 1,
-        merged(groups, link.ends),
-        product.times(value.into()),
-    );
-    let broken = sum(plan, place + 1, groups, product.times((S - value).into()));
-    sound.plus(&broken)
+    let if_sound = sum(others, nodes, merged(groups, *ends)).times(*sound);
+    let if_broken = sum(others, nodes, groups).times(*broken);
+    if_sound.plus(&if_broken)
 }
 
 /// N of the plan, with the nodes of the given ends joined from the start.
 fn connected_states(plan: &Plan, joined: Option<[u8; 2]>) -> Whole {
     assert!(plan.links.len() <= MOST);
+    let links = plan.links.iter().map(|link| (link.ends, weights(link)));
+    let links: Vec<_> = links.collect();
     let alone = std::array::from_fn(|v| v as u8);
     let groups = joined.map_or(alone, |ends| merged(alone, ends));
-    sum(plan, 0, groups, Whole::from(1))
+    sum(&links, plan.nodes.into(), groups)
 }
 
 /// The number (gain - loss) / one, in units.
@@ -102,8 +142,8 @@ impl Exact {
     pub fn figure(plan: &Plan) -> Exact {
         Exact {
             gain: connected_states(plan, None).times(S.into()),
-            loss: Whole::from(0),
-            one: Whole::from(1).times_power_of_s(plan.links.len()),
+            loss: Whole::zero(),
+            one: Whole::one().times_power_of_s(powers(plan)),
         }
     }
 
@@ -114,22 +154,22 @@ impl Exact {
         Exact {
             gain: connected_states(&others, Some(link.ends)).times(S.into()),
             loss: connected_states(&others, None).times(S.into()),
-            one: Whole::from(1).times_power_of_s(others.links.len()),
+            one: Whole::one().times_power_of_s(powers(&others)),
         }
     }
 
     pub fn difference(a: &Plan, b: &Plan) -> Exact {
         let (a_figure, b_figure) = (Exact::figure(a), Exact::figure(b));
         Exact {
-            gain: a_figure.gain.times_power_of_s(b.links.len()),
-            loss: b_figure.gain.times_power_of_s(a.links.len()),
-            one: a_figure.one.times_power_of_s(b.links.len()),
+            gain: a_figure.gain.times_power_of_s(powers(b)),
+            loss: b_figure.gain.times_power_of_s(powers(a)),
+            one: a_figure.one.times_power_of_s(powers(b)),
         }
     }
 
     /// This number against a whole number of units.
     pub fn compared(&self, units: i64) -> Ordering {
-        let scaled = self.one.times(units.unsigned_abs());
+        let scaled = self.one.times(units.unsigned_abs().into());
         if units < 0 {
             self.gain.plus(&scaled).cmp(&self.loss)
         } else {
@@ -140,4 +180,29 @@ impl Exact {
     pub fn is_enclosed_by(&self, answer: &Answer) -> bool {
         self.compared(answer.low).is_ge() && self.compared(answer.high).is_le()
     }
+}
+
+/// How wide the pair of a finished figure may be, with so many links, nodes and lengths.
+fn bound(links: usize, nodes: u16, lengths: usize) -> i64 {
+    2 * links as i64 + 4 * i64::from(nodes) + 4 * lengths as i64
+}
+
+/// How wide a finished figure of the plan may be.
+pub fn widest(plan: &Plan) -> i64 {
+    bound(plan.links.len(), plan.nodes, plan.lengths())
+}
+
+/// How wide a finished importance may be: as both evaluations together, which have the other links. Where the link is sound its
+/// ends are one node.
+pub fn widest_importance(plan: &Plan, place: usize) -> i64 {
+    let mut others = plan.clone();
+    let [a, b] = others.links.remove(place).ends;
+    let (links, lengths) = (others.links.len(), others.lengths());
+    let merged = plan.nodes - u16::from(a != b);
+    bound(links, merged, lengths) + bound(links, plan.nodes, lengths)
+}
+
+/// How wide a finished difference may be.
+pub fn widest_difference(a: &Plan, b: &Plan) -> i64 {
+    widest(a) + widest(b)
 }

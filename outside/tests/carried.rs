@@ -11,7 +11,7 @@ use outside::sittings::{
     held, most_splits, next_chosen, places_chosen, still_to_take, Begun, Sat, Sitting, NOTHING,
     RUNNING, WORK,
 };
-use outside::states::{Exact, MOST};
+use outside::states::{widest, Exact, MOST};
 use std::ops::Range;
 use Choice::{FirstLink, LargestSum};
 
@@ -228,10 +228,6 @@ fn the_sample_plans() {
     }
 }
 
-fn width(plan: &Plan) -> i64 {
-    2 * plan.links.len() as i64 + 4 * i64::from(plan.nodes)
-}
-
 /// Answers from the same work under growing limits: each encloses the exact figure and lies within the one before, and a finished
 /// one is at most so wide.
 fn hold_enclosure(old: &Old, limits: impl Iterator<Item = u64>) -> usize {
@@ -241,7 +237,7 @@ fn hold_enclosure(old: &Old, limits: impl Iterator<Item = u64>) -> usize {
     for limit in limits {
         let now = answer(&old.sat(limit));
         assert!(exact.is_enclosed_by(&now), "{now:?} {:?}", old.plan);
-        let narrow = now.high - now.low <= width(&old.plan);
+        let narrow = now.high - now.low <= widest(&old.plan);
         assert!(!now.finished || narrow, "{now:?} {:?}", old.plan);
         let nested = |wide: Answer| wide.low <= now.low && now.high <= wide.high;
         assert!(before.is_none_or(nested), "{now:?} after {before:?}");

@@ -5,7 +5,7 @@ use outside::calls::{held, limits_around, Call};
 use outside::plans::Plan;
 use outside::random::Random;
 use outside::rule::{needed, Answer, Network};
-use outside::states::{Exact, MOST};
+use outside::states::{widest, widest_difference, widest_importance, Exact, MOST};
 
 /// The answer of an accepted call.
 fn answer(call: Call) -> Answer {
@@ -14,10 +14,6 @@ fn answer(call: Call) -> Answer {
 
 fn splits(plan: &Plan) -> u64 {
     needed(Network::from(plan))
-}
-
-fn width(plan: &Plan) -> i64 {
-    2 * plan.links.len() as i64 + 4 * i64::from(plan.nodes)
 }
 
 /// The answers under growing limits: each encloses the exact number and lies within the one before; those that are
@@ -46,7 +42,7 @@ fn hold_figure(data: &Plan) -> u64 {
         answer
     };
     let answers: Vec<Answer> = limits_around(needed).into_iter().map(worked).collect();
-    hold(&Exact::figure(data), &answers, width(data));
+    hold(&Exact::figure(data), &answers, widest(data));
     needed
 }
 
@@ -73,7 +69,7 @@ fn importances_of_every_link() {
         let data = Plan::random(&mut random, 8, 12);
         let limits = limits_around(splits(&data));
         let plan = &data.bytes();
-        for (i, link) in data.links.iter().enumerate() {
+        for i in 0..data.links.len() {
             let place = i as u64;
             let worked = |limit: &u64| {
                 let limit = *limit;
@@ -81,9 +77,8 @@ fn importances_of_every_link() {
             };
             let answers: Vec<Answer> = limits.iter().map(worked).collect();
             assert!(answers.iter().all(|answer| answer.low >= 0));
-            let merged = if link.ends[0] == link.ends[1] { 0 } else { 1 };
-            let widest = 2 * (width(&data) - 2) - 4 * merged;
-            hold(&Exact::importance(&data, i), &answers, widest);
+            let exact = Exact::importance(&data, i);
+            hold(&exact, &answers, widest_importance(&data, i));
         }
     }
 }
@@ -115,7 +110,8 @@ fn differences_both_ways_round() {
             let worked = |limit| answer(Call::Difference { a, b, limit });
             let answers: Vec<Answer> = limits_around(most).into_iter().map(worked).collect();
             let exact = Exact::difference(&plans[i], &plans[j]);
-            hold(&exact, &answers, width(&plans[i]) + width(&plans[j]));
+            let widest = widest_difference(&plans[i], &plans[j]);
+            hold(&exact, &answers, widest);
             for answer in answers {
                 signs[usize::from(answer.low >= 0) + usize::from(answer.high >= 0)] += 1;
             }

@@ -222,12 +222,17 @@ fn the_bytes_of_a_plan() {
     assert_eq!(plan.bytes(), bytes);
     assert_eq!(held(&Call::Check { plan: &bytes }, 0), Ok(None));
     assert_eq!(read(&bytes), Ok(plan));
-    let lengths = [(0, S), (1, 999_700_000), (2, 999_400_090), (3, 999_100_269)];
-    for (k, units) in lengths {
+    let lengths = [
+        (0, [999_900_002, 999_900_003]),
+        (1, [999_600_032, 999_600_033]),
+        (2, [999_300_151, 999_300_153]),
+        (3, [999_000_360, 999_000_362]),
+    ];
+    for (k, values) in lengths {
         let link = Plan::new(2, &[(0, 1, LENGTH + k)]);
-        assert_eq!(link.links[0].units(), units);
-        assert_eq!(worked(&link, 0).low, units.into());
-        assert_eq!(worked(&link, 0).high, units.into());
+        assert_eq!(link.links[0].values(), values);
+        let answer = worked(&link, 0);
+        assert_eq!([answer.low, answer.high], values.map(i64::from));
     }
 }
 

@@ -116,6 +116,23 @@ fn plans_of_two_parts() {
     assert!(tried.least() > 100, "too few of a kind: {tried:?}");
 }
 
+/// Every link a length or half of them, so that most links start with unequal values.
+#[test]
+fn plans_of_lengths() {
+    let mut random = Random::new(75);
+    let mut tried = Tried::default();
+    for i in 0..3_000 {
+        let of_ten = [10, 5][i % 2];
+        let plan = Plan::random(&mut random, 12, 22).with_lengths(&mut random, of_ten);
+        tried.hold(&plan, &limits(&mut random, &plan));
+    }
+    for nodes in 1..=32 {
+        let plan = Plan::random_of(&mut random, nodes, 64).with_lengths(&mut random, 10);
+        tried.hold(&plan, &[0, 1, 50, 400]);
+    }
+    assert!(tried.least() > 300, "too few of a kind: {tried:?}");
+}
+
 /// Each number of nodes with each number of links.
 #[test]
 fn plans_of_all_sizes() {
