@@ -1,9 +1,11 @@
 use Prim.Native.Nat.{ℕ, _≤_}
-use mathlib.Core.Path.{sym, ap, _∙_, subst}
+use mathlib.Core.Path.{_≡_, sym, ap, _∙_, subst}
 use borrow.Author.Needs.{needs}
 use Rattle.rounding.specs.Rounding.{S}
-use Rattle.ratings.specs.Ratings.{withJoints}
+use Rattle.rounding.specs.declared.Direction.{Direction}
+use Rattle.ratings.specs.Ratings.{T, withJoints}
 use Rattle.ratings.proofs.Laws.{range}
+use Rattle.plan.specs.declared.Rated.the-variants.{OfLength}
 use Rattle.plan.specs.Plans.{valueOf}
 use Rattle.plan.proofs.Values.{in-table}
 use Rattle.plan.proofs.value_of.Statement.{statement}
@@ -34,12 +36,16 @@ returns c =
     let s = c .before .before .before in
     ap (valueOf (s .before .args .d)) (sym (c .before .v .given .1) ∙ s .stands-for .ensures)
 
+-- the table's chance, then the joints
+of-length : {x t : ℕ} (d : Direction) (k : ℕ) → t ≡ T k → x ≡ withJoints d t → x ≡ valueOf d (OfLength k)
+of-length d k table joints = rw (joints, table)
+
 returns-2 : tie.Need-returns-2
 returns-2 c =
     let k = c .before .before .before in
     let s = k .before .before in
     let d = s .before .args .d in
-    c .with-joints .ensures ∙ ap (withJoints d) (c .before .rating .ensures .0) ∙ ap (valueOf d) (sym (k .k .given .1) ∙ s .stands-for .ensures)
+    of-length d (k .k .given .0 .0) (c .before .rating .ensures .0) (c .with-joints .ensures) ∙ ap (valueOf d) (sym (k .k .given .1) ∙ s .stands-for .ensures)
 
 returns-3 : tie.Need-returns-3
 returns-3 c =
