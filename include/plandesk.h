@@ -1,18 +1,18 @@
 /* The plan calculator's five calls.
 
-   A plan file, all numbers little-endian: n (16 bits), m (16 bits); m pairs of one-byte ends, numbered from 0; m values of
-   32 bits. Its length is 4 + 6 * m; n is 1 to 32, m is 0 to 64. A value of 0 to S = 1,000,000,000 is a link's chance in
-   units of one part in S. A value of 2,147,483,648 + k, k from 0 to 511, is a length of k hundred metres: a cable with a
-   joint at each end, also where k is 0. It stands for the chance T[k] * J * J / (S * S) units, with J = 999,950,000,
+   A plan file, all numbers little-endian: n (16 bits), m (16 bits); m pairs of one-byte ends, numbered from 0; m values
+   of 32 bits. Its length is 4 + 6 * m; n is 1 to 32, m is 0 to 64. A value of 0 to S = 1,000,000,000 is a link's chance
+   in units of one part in S. A value of 2,147,483,648 + k, k from 0 to 511, is a length of k hundred metres: a cable with
+   a joint at each end, also where k is 0. It stands for the chance T[k] * J * J / (S * S) units, with J = 999,950,000,
    T[0] = S, and each next T the one before * 999,700,000 / S, rounded down. The calculator works with a low and a high
    value of it, rounded down and up after each joint: 999,900,002 and 999,900,003 for k = 0, 999,600,032 and 999,600,033
    for k = 1. A chance in units is taken as it is, with its joints in it.
 
    An answer is four 32-bit little-endian numbers, 16 bytes: low, high, steps, finished (1 or 0). They fill the first 16
-   bytes of the answer buffer; later bytes keep their contents. The exact figure, in units, is no less than low and no more
-   than high, finished or not; exact means of the chances as they stand above, those of lengths not rounded. Where a figure
-   is finished, high is at most 2 * m + 4 * n + 4 * L above low, L being the number of links given by length; a finished
-   importance or difference is at most as wide as its two evaluations together may be.
+   bytes of the answer buffer; later bytes keep their contents. The exact figure, in units, is no less than low and no
+   more than high, finished or not; exact means of the chances as they stand above, those of lengths not rounded. Where a
+   figure is finished, high is at most 2 * m + 4 * n + 4 * L above low, L being the number of links given by length; a
+   finished importance or difference is at most as wide as its two evaluations together may be.
 
    Each call returns 0 if it is accepted, and otherwise the number of the first cause of refusal that it meets, in the order
    of this table. A refused call leaves the whole answer buffer as it was, and the whole work buffer.
@@ -88,13 +88,13 @@ uint64_t difference(const uint8_t *plan_a, size_t plan_a_len, const uint8_t *pla
    1,000,000 if that is less, and with the saved work of one first sitting under that limit. Work stopped by the 1,000,000
    stays begun, and later sittings give the same answer and the same saved work.
 
-   The rule splits on the link whose two ends have the most links together, the earliest of such links; before, it split on
-   the first link. Work set aside then is carried on: its open splits and the figures of their sound branches remain, and
-   each split that is not yet taken is by the rule of now. So is work in which sittings of then and of now took turns. Its
-   answers enclose the exact figure and are as narrow where they are finished, but neither their numbers nor their steps
-   need be those of figure. From the same saved work a larger limit gives a pair within that of a smaller one, and sittings
-   end as one under their total does. Such a sitting is unfinished exactly if the splits still to take are more than its
-   limit, or come to more than 1,000,000 with the steps so far.
+   The rule splits on the link whose two ends have the most links together, the earliest of such links; before, it split
+   on the first link. Work set aside then is carried on, of a plan without lengths: its open splits and the figures of
+   their sound branches remain, and each split that is not yet taken is by the rule of now. So is work in which sittings
+   of then and of now took turns. Its answers enclose the exact figure and are as narrow where they are finished, but
+   neither their numbers nor their steps need be those of figure. From the same saved work a larger limit gives a pair
+   within that of a smaller one, and sittings end as one under their total does. Such a sitting is unfinished exactly if
+   the splits still to take are more than its limit, or come to more than 1,000,000 with the steps so far.
 
    Saved work, all numbers little-endian, with c open splits:
 
@@ -125,8 +125,8 @@ uint64_t difference(const uint8_t *plan_a, size_t plan_a_len, const uint8_t *pla
    What is said of answers holds for saved work that came from earlier sittings of this very plan. Other bytes are tested
    as far as 10 and 11 say and no further: not whether the steps go with the open splits, nor whether the figures of an
    open split or the 16 bytes of complete work are right. They get an answer or a refusal, and no more is promised of it.
-   Work of a plan with lengths that was set aside when a length stood for T[k] alone, without joints, is among these
-   other bytes: it counts as made up by hand, nothing in it tells its age, and such a plan is to be begun anew.
+   Work of a plan with lengths that was set aside when a length stood for T[k] alone, without joints, is among these other
+   bytes: it counts as made up by hand, nothing in it tells its age, and such a plan is to be begun anew.
 
    Returns 0, or 7, 9, 1 to 4, 5 + 256 * i, 6 + 256 * i, 10 or 11. A refused sitting leaves both buffers as they were. */
 uint64_t sitting(const uint8_t *plan, size_t plan_len, uint64_t limit, const uint8_t *saved, size_t saved_len,

@@ -88,15 +88,21 @@ module _ (first second : List ℕ) (limit : ℕ) (b : List ℕ) where
     abbrev high : ℤ
     high = signed (highIn after)
 
-    -- N over T is the exact reliability of the first plan, M over U of the second: T is S^(m+2L), U is S^(m′+2L′)
-    abbrev T : ℕ
-    T = S ^ (sizeM first + 2 * lengths first)
+    -- the exact reliabilities: N over D of the first plan, M over E of the second
+    abbrev N : ℕ
+    N = exactOf first
 
-    abbrev U : ℕ
-    U = S ^ (sizeM second + 2 * lengths second)
+    abbrev D : ℕ
+    D = S ^ (sizeM first + 2 * lengths first)
+
+    abbrev M : ℕ
+    M = exactOf second
+
+    abbrev E : ℕ
+    E = S ^ (sizeM second + 2 * lengths second)
 
     abbrev exactly : ℤ
-    exactly = exactDifference (exactOf first) T (exactOf second) U
+    exactly = exactDifference N D M E
 
     gv : Valid g
     gv = valid-of first (difference-accepted .0 zero .2)
@@ -122,8 +128,8 @@ module _ (first second : List ℕ) (limit : ℕ) (b : List ℕ) where
         let n = read-back bits b difference-full-or-refused zero (twos-range (d .low) (small .0), twos-range (d .high) (small .1), omega arith) in
         record { low = ap signed (n .low) ∙ signed-back (d .low) (small .0); high = ap signed (n .high) ∙ signed-back (d .high) (small .1); steps = n .steps; finished = n .finished }
 
-    -- demand 2: low × T × U ≤ S × (N × U − M × T) ≤ high × T × U
-    pub difference-encloses : ((low *ℤ pos (T * U)) ≤ℤ (pos S *ℤ exactly)) × ((pos S *ℤ exactly) ≤ℤ (high *ℤ pos (T * U)))
+    -- demand 2: low × D × E ≤ S × (N × E − M × D) ≤ high × D × E
+    pub difference-encloses : ((low *ℤ pos (D * E)) ≤ℤ (pos S *ℤ exactly)) × ((pos S *ℤ exactly) ≤ℤ (high *ℤ pos (D * E)))
     unfolding exactOf
     difference-encloses =
         rw (difference-numbers .low, difference-numbers .high, ← plan-total first, ← plan-total second) (rule.difference-enclosure g h gv hv limit (plan-enclosed first) (plan-enclosed second))

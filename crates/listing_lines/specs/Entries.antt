@@ -28,7 +28,7 @@ sizesLine n m k = filled (n ∷ m ∷ k ∷ []) (text "nodes 0 links 1 pieces 2\
 abbrev pub figureLine : Figure → List ℕ
 figureLine f = filled (f .low ∷ f .high ∷ f .steps ∷ cond (f .finished) 1 0 ∷ []) (text "low 0 high 1 steps 2 finished 3\n")
 
--- place, both ends, value in units, importance low and high
+-- place, both ends, low value in units, importance low and high
 abbrev pub linkLine : ℕ → Link → Figure → List ℕ
 linkLine i e f = filled (i ∷ e .a ∷ e .b ∷ e .low ∷ f .low ∷ f .high ∷ []) (text "link 0 1 2 3 4 5\n")
 

@@ -16,7 +16,7 @@ use Rattle.plan.specs.Plans.{sizeN, sizeM, firstEnd, secondEnd, fileValu
 use Rattle.plan.proofs.Values.{value-range, value-order}
 use Rattle.plan.proofs.Verdicts.{accepted-means}
 
--- ---- the links at the places from i on, k of them
+-- ---- what stands at the places from i on, k of them
 
 module _ {A : Type 0} (f : ℕ → A) where
   from-suc : (i k : ℕ) → map f (from i (suc k)) ≡ map f (from i k) ++ (f (i + k) ∷ [])

@@ -17,15 +17,15 @@ use Rattle.plan.specs.declared.Rated.{Rated}
 use Rattle.plan.specs.declared.Rated.the-variants.{Units, OfLength, Unrated}
 use Rattle.plan.specs.Plans.{ratedBy, rated, valueOf}
 
--- 0, S and a value between in units; lengths of 0, 100 and 51,100 metres; one more stands for none
+-- 0, S and a value between in units; lengths of 0 and 51,100 metres; one more stands for none
 pub worked : Direction → List ℕ
-worked d = map (λ w. valueOf d (rated w)) (0 ∷ 1000000000 ∷ 999700000 ∷ 2147483648 ∷ 2147483649 ∷ 2147484159 ∷ 2147484160 ∷ [])
+worked d = map (λ w. valueOf d (rated w)) (0 ∷ 1000000000 ∷ 999700000 ∷ 2147483648 ∷ 2147484159 ∷ 2147484160 ∷ [])
 
-pub lows : worked Down ≡ (0 ∷ 1000000000 ∷ 999700000 ∷ 999900002 ∷ 999600032 ∷ 857766565 ∷ 0 ∷ [])
+pub lows : worked Down ≡ (0 ∷ 1000000000 ∷ 999700000 ∷ 999900002 ∷ 857766565 ∷ 0 ∷ [])
 unfolding worked rated T withJoints product quotient
 lows = refl
 
-pub highs : worked Up ≡ (0 ∷ 1000000000 ∷ 999700000 ∷ 999900003 ∷ 999600033 ∷ 857766567 ∷ 0 ∷ [])
+pub highs : worked Up ≡ (0 ∷ 1000000000 ∷ 999700000 ∷ 999900003 ∷ 857766567 ∷ 0 ∷ [])
 unfolding worked rated T withJoints product quotient
 highs = refl
 

@@ -54,9 +54,9 @@ module _ (x y : ℕ) where
   value-fits : (w : ℕ) → Fits x y (rated w)
   value-fits = by-rated (Fits x y) in-units (λ k h. by-length k) (in-units 0 (lit≤ tt))
 
--- all parts of a link: S, and S × S more where it is given by length
-parts : (w : ℕ) → soundParts (rated w) + (allParts (rated w) - soundParts (rated w)) ≡ S ^ (1 + unitsOff (rated w))
-parts = by-rated (λ r. soundParts r + (allParts r - soundParts r) ≡ S ^ (1 + unitsOff r)) (λ v h. add-sub-of-le h) (λ k h. add-sub-of-le (omega (arith, range k))) refl
+-- all parts of a link: S, and S × S times as many where it is given by length
+parts : (w : ℕ) → soundParts (rated w) + (allParts (rated w) - soundParts (rated w)) ≡ S ^ (1 + 2 * cond (isLength (rated w)) 1 0)
+parts = by-rated (λ r. soundParts r + (allParts r - soundParts r) ≡ S ^ (1 + 2 * cond (isLength r) 1 0)) (λ v h. add-sub-of-le h) (λ k h. add-sub-of-le (omega (arith, range k))) refl
 
 -- one link more: one length more where it is given by length
 counted : (t : Bool) (i : ℕ) (is : List ℕ) → length {A = ℕ} (elim t [ true ↦ i ∷ is | false ↦ is ]) ≡ cond t 1 0 + length is
@@ -100,14 +100,14 @@ module _ (b : List ℕ) where
   fewer-at zero (j ∷ is) = omega (arith, one-more j is)
   fewer-at (suc i) (j ∷ is) = omega (arith, fewer-at i is, one-more j is, one-more j (deleteAt i is))
 
-  -- over S to the power m + 2L
-  total-at : (is : List ℕ) → total (map (weightIn b) is) ≡ S ^ (length is + altogether (map off is))
-  unfolding total weightIn altogether
+  -- S to the power of the links and twice the lengths
+  total-at : (is : List ℕ) → total (map (weightIn b) is) ≡ S ^ (length is + 2 * lengthsAmong b is)
+  unfolding total weightIn lengthsAmong filter
   total-at [] = refl
   total-at (i ∷ is) =
       ap₂ _*_ (parts (fileValue b i)) (total-at is)
-      ∙ sym (pow-add S (1 + off i) (length is + altogether (map off is)))
-      ∙ ap (λ n. S ^ n) (omega arith)
+      ∙ sym (pow-add S (1 + 2 * cond (byLength i) 1 0) (length is + 2 * lengthsAmong b is))
+      ∙ ap (λ n. S ^ n) (omega (arith, one-more i is))
 
 -- the links of a plan: its weights are enclosed, they come to S to the power m + 2L, and its links may be off by 2L units in all
 module _ (b : List ℕ) where
@@ -124,7 +124,7 @@ module _ (b : List ℕ) where
   plan-units = units-at b places
 
   pub plan-total : total (weightsOf b) ≡ S ^ (sizeM b + 2 * lengths b)
-  plan-total = total-at b places ∙ ap₂ (λ m u. S ^ (m + u)) (length-from 0 (sizeM b)) plan-units
+  plan-total = total-at b places ∙ ap (λ m. S ^ (m + 2 * lengths b)) (length-from 0 (sizeM b))
 
   pub plan-lengths : lengths b ≤ sizeM b
   plan-lengths = omega (arith, few-at b places, length-from 0 (sizeM b))
@@ -144,4 +144,4 @@ module _ (b : List ℕ) where
     others-total place =
         let size = length-from 0 (sizeM b) in
         let fewer : length others ≡ sizeM b - 1 = omega (arith, length-delete {i = i} places (omega arith)) in
-        ap total (sym (map-delete (weightIn b) i places)) ∙ total-at b others ∙ ap₂ (λ m u. S ^ (m + u)) fewer (units-at b others)
+        ap total (sym (map-delete (weightIn b) i places)) ∙ total-at b others ∙ ap (λ m. S ^ (m + 2 * otherLengths b i)) fewer

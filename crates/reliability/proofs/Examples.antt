@@ -1,7 +1,7 @@
 -- The plans that the paper marks P, and some more, as rows of one table: one proof computes them all from the definitions.
 use Prim.Native.Nat.{ℕ, _*_, _^_}
 use mathlib.Core.Path.{_≡_, refl}
-use mathlib.Core.List.{List, [], _∷_}
+use mathlib.Core.List.{List, [], _∷_, map}
 use mathlib.Core.Bool.{Bool, true, false, _&&_}
 use lib.Dec.{eqb}
 use lib.ListN.{length}
@@ -10,7 +10,7 @@ use Rattle.rounding.specs.declared.Direction.the-variants.{Down}
 use Rattle.reliability.specs.declared.Link.{Link}
 use Rattle.reliability.specs.declared.Figure.{Figure}
 use Rattle.reliability.specs.Networks.{Network, merge, label, every, connected, lastOfEach}
-use Rattle.reliability.specs.Exact.{sum, exact}
+use Rattle.reliability.specs.Exact.{weighted, sum}
 use Rattle.reliability.proofs.Pieces.{link}
 use Rattle.reliability.specs.Rule.{firstAt, places, firstPair, lowest, nextAt, degree, largest, largestSum, deleteAt, without, leaves, grown, treeOf, treeBy, run, firstLink, chosen}
 
@@ -36,7 +36,7 @@ right choose r =
     let g : Network = record { nodes = r .nodes; links = r .links } in
     let f : Figure = run (treeBy choose g) (r .limit) in
     eqb (f .low) (r .low) && eqb (f .high) (r .high) && eqb (f .steps) (r .steps) && same (f .finished) (r .finished)
-    && eqb (S * exact Down g) (r .exactly * S ^ length (r .links))
+    && eqb (S * sum (g .nodes) (map (weighted Down) (g .links)) []) (r .exactly * S ^ length (r .links))
 
 pub triangle : ℕ → List Link
 triangle p = link 0 1 p ∷ link 1 2 p ∷ link 0 2 p ∷ []
@@ -89,5 +89,5 @@ by-first-link =
 
 -- the rows of the paper stand by either choice
 pub examples : (every (right chosen) rows && every (right firstLink) rows && every (right chosen) by-largest-sum && every (right firstLink) by-first-link) ≡ true
-unfolding right same rows by-largest-sum by-first-link row link triangle half four five treeOf grown run largestSum largest degree leaves nextAt without deleteAt lowest firstPair places firstAt exact sum lastOfEach connected every label merge quotient product parallel either series factor split
+unfolding right same rows by-largest-sum by-first-link row link triangle half four five treeOf grown run largestSum largest degree leaves nextAt without deleteAt lowest firstPair places firstAt sum lastOfEach connected every label merge quotient product parallel either series factor split
 examples = refl

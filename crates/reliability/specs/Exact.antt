@@ -1,12 +1,12 @@
--- Exact reliability: the sum over the sets of links that connect all nodes.
+-- Exact reliability, N over a total: the sum over the sets of links that connect all nodes, over the sum over all sets.
 use Prim.Native.Nat.{ℕ, _+_, _-_, _*_, _≤_, _<_}
 use mathlib.Core.Path.{_≡_}
-use mathlib.Core.List.{List, [], _∷_, map}
+use mathlib.Core.List.{List, [], _∷_}
 use mathlib.Core.Bool.{cond}
 use Rattle.rounding.specs.Rounding.{S}
 use Rattle.rounding.specs.declared.Direction.{Direction}
 use Rattle.reliability.specs.declared.Link.{Link}
-use Rattle.reliability.specs.Networks.{Network, Ends, ends, value, connected}
+use Rattle.reliability.specs.Networks.{Ends, ends, value, connected}
 
 -- a link with its weights: sound is multiplied in for a set that holds it, broken for one that does not
 pub record Weighted : Type 0 where
@@ -27,10 +27,6 @@ total (e ∷ es) = (e .sound + e .broken) * total es
 -- a link of a value in units: sound with that value, broken with S less that value
 abbrev pub weighted : Direction → Link → Weighted
 weighted d e = record { joins = ends e; sound = value d e; broken = S - value d e }
-
--- N: the exact reliability of a network, at one direction's values, is N over S to the power m
-unfoldable pub exact : Direction → Network → ℕ
-exact d g = sum (g .nodes) (map (weighted d) (g .links)) []
 
 -- a link's low and high value enclose its exact weights, and each is off by at most c units
 pub record Enclosed (c : ℕ) (e : Link) (w : Weighted) : Type 0 where

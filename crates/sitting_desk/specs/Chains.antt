@@ -42,7 +42,7 @@ abbrev pub limits : List Lent → List ℕ
 limits [] = []
 limits (x ∷ xs) = x .limit ∷ limits xs
 
--- saved work that came from the plan's earlier sittings, each by document 01's choice of the link to split on or by the rule's
+-- saved work that came from the plan's earlier sittings with its links' values of now, each by document 01's choice of the link to split on or by the rule's
 pub record Earlier (plan : List ℕ) (s : Saved) : Type 0 where
   pub sittings : List (Choosing × ℕ)
   pub same : s ≡ savedBy (planOf plan) nothing sittings
