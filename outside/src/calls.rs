@@ -33,7 +33,7 @@ pub enum Call<'a> {
 /// Limits around the splits that a network needs, and far from them, in ascending order.
 pub fn limits_around(needed: u64) -> Vec<u64> {
     let around = needed.saturating_sub(1)..=needed + 1;
-    let mut limits: Vec<u64> = around.chain([0, needed / 2, MOST_STEPS]).collect();
+    let mut limits: Vec<u64> = around.chain([0, 1, needed / 2, MOST_STEPS]).collect();
     limits.sort();
     limits
 }

@@ -5,6 +5,7 @@ pub mod arithmetic;
 pub mod bitsets;
 pub mod calls;
 pub mod citations;
+pub mod claims;
 pub mod desk;
 pub mod library;
 pub mod listing;

@@ -149,6 +149,14 @@ impl Plan {
         }
     }
 
+    /// The same plan with the rating of each length as a value in units: what it stood for without joints.
+    pub fn without_joints(mut self) -> Plan {
+        for link in &mut self.links {
+            link.value = link.rating().unwrap_or(link.value);
+        }
+        self
+    }
+
     /// The same plan with lengths for so many of ten links.
     pub fn with_lengths(mut self, random: &mut Random, of_ten: usize) -> Plan {
         for link in &mut self.links {

@@ -2,7 +2,8 @@
 //! by the library and held to the independent version. Also work of several sittings by either choice, in turns.
 
 use outside::arithmetic::S;
-use outside::calls::{answer_of, read, MOST_STEPS};
+use outside::calls::{read, MOST_STEPS};
+use outside::claims::{hold, hold_nested, sat_answer as answer};
 use outside::plans::Plan;
 use outside::random::Random;
 use outside::repository::{plan, plans_with};
@@ -29,10 +30,6 @@ fn sat_by(choice: Choice, plan: &[u8], limit: u64, saved: &[u8]) -> Sat {
             sitting.outcome_by(FirstLink, 16, WORK).unwrap()
         }
     }
-}
-
-fn answer(sat: &Sat) -> Answer {
-    answer_of(sat.answer[..].try_into().unwrap())
 }
 
 fn finished(sat: &Sat) -> bool {
@@ -228,24 +225,13 @@ fn the_sample_plans() {
     }
 }
 
-/// Answers from the same work under growing limits: each encloses the exact figure and lies within the one before, and a finished
-/// one is at most so wide.
-fn hold_enclosure(old: &Old, limits: impl Iterator<Item = u64>) -> usize {
-    let exact = Exact::figure(&old.plan);
-    let mut before: Option<Answer> = None;
-    let mut unfinished = 0;
-    for limit in limits {
-        let now = answer(&old.sat(limit));
-        assert!(exact.is_enclosed_by(&now), "{now:?} {:?}", old.plan);
-        let narrow = now.high - now.low <= widest(&old.plan);
-        assert!(!now.finished || narrow, "{now:?} {:?}", old.plan);
-        let nested = |wide: Answer| wide.low <= now.low && now.high <= wide.high;
-        assert!(before.is_none_or(nested), "{now:?} after {before:?}");
-        unfinished += usize::from(!now.finished);
-        before = Some(now);
-    }
-    assert!(before.unwrap().finished);
-    unfinished
+/// What is claimed of the answers from the same work, under all limits up to the splits still to take; how many are unfinished.
+fn hold_enclosure(old: &Old) -> usize {
+    let limits = 0..=old.still();
+    let answers: Vec<Answer> = limits.map(|limit| answer(&old.sat(limit))).collect();
+    hold(&Exact::figure(&old.plan), &answers, widest(&old.plan));
+    assert!(answers.last().unwrap().finished);
+    answers.iter().filter(|answer| !answer.finished).count()
 }
 
 /// Small plans, of which the exact figure is the sum over all states.
@@ -258,7 +244,7 @@ fn carried_answers_enclose_exact_figures() {
         for old in works(&mut random, 150, MOST, ways) {
             assert!(old.plan.links.len() <= MOST);
             met.work(&old);
-            unfinished += hold_enclosure(&old, 0..=old.still());
+            unfinished += hold_enclosure(&old);
             let afresh = answer(&carried(&old.file, MOST_STEPS, &NOTHING));
             let end = answer(&old.sat(MOST_STEPS));
             changed += usize::from((afresh.low, afresh.high) != (end.low, end.high));
@@ -281,10 +267,7 @@ fn nesting_from_the_same_work() {
             .iter()
             .map(|limit| answer(&old.sat(*limit)))
             .collect();
-        for pair in answers.windows(2) {
-            let nested = pair[0].low <= pair[1].low && pair[1].high <= pair[0].high;
-            assert!(nested, "{pair:?}");
-        }
+        hold_nested(&answers);
     }
 }
 

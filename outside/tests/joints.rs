@@ -1,14 +1,15 @@
-//! Lengths and their joints: the values of all 512 lengths through each call, worked out apart; and plans of lengths, alone and
-//! among values in units, against the rule, against exact sums and against numbers that are known.
+//! Lengths and their joints: the values of all 512 lengths through each call, worked out apart, and plans of which the numbers are
+//! known.
 
 use outside::arithmetic::S;
-use outside::calls::{answer_bytes, answer_of, held, limits_around, Call, MOST_STEPS};
+use outside::calls::{answer_bytes, MOST_STEPS};
+use outside::claims::{difference, figure, importance, sat, sat_answer};
 use outside::listing::{by_the_rule, written};
 use outside::plans::{Plan, LENGTH};
 use outside::random::Random;
-use outside::rule::{needed, needed_by, Answer, Choice, Network};
-use outside::sittings::{self, sizes, Begun, Sat, Sitting, NOTHING, WORK};
-use outside::states::{widest, widest_difference, widest_importance, Exact, MOST};
+use outside::rule::Answer;
+use outside::sittings::{sizes, Sat, NOTHING};
+use outside::states::Exact;
 use std::cmp::Ordering;
 use std::iter::successors;
 
@@ -55,38 +56,6 @@ fn lengths() -> Vec<Length> {
         high: above(above(rating * J, ONE) * J, ONE),
     };
     (0..512).zip(ratings).map(length).collect()
-}
-
-/// The answer of an accepted call, to which the library is held.
-fn answer(call: Call) -> Answer {
-    held(&call, 24).unwrap().unwrap()
-}
-
-fn figure(plan: &Plan, limit: u64) -> Answer {
-    let plan = &plan.bytes();
-    answer(Call::Figure { plan, limit })
-}
-
-fn importance(plan: &Plan, place: u64, limit: u64) -> Answer {
-    let plan = &plan.bytes();
-    answer(Call::Importance { plan, place, limit })
-}
-
-fn difference(a: &Plan, b: &Plan, limit: u64) -> Answer {
-    let (a, b) = (&a.bytes(), &b.bytes());
-    answer(Call::Difference { a, b, limit })
-}
-
-fn sat(plan: &[u8], limit: u64, saved: &[u8]) -> Sat {
-    sittings::held(&Sitting { plan, limit, saved }).unwrap()
-}
-
-fn sat_answer(sat: &Sat) -> Answer {
-    answer_of(sat.answer[..].try_into().unwrap())
-}
-
-fn is_complete(sat: &Sat) -> bool {
-    sat.work[2] == 1
 }
 
 /// A finished answer that takes no split.
@@ -235,6 +204,45 @@ fn every_length_in_a_sitting() {
     }
 }
 
+/// A plan of so many links in which all hangs on the one at this place, of a length: five nodes are joined each to each by links of
+/// S, the length leads to a sixth, the next link, of S, from there to a seventh; the others are loops of the same length.
+fn hanging_on(length: &Length, place: usize, count: usize) -> Plan {
+    let next = (place + 1) % count;
+    let mut links = vec![(0, 0, LENGTH + length.k); count];
+    let mut others = (0..count).filter(|other| ![place, next].contains(other));
+    for b in 1..5 {
+        for a in 0..b {
+            links[others.next().unwrap()] = (a, b, S);
+        }
+    }
+    links[place] = (0, 5, LENGTH + length.k);
+    links[next] = (5, 6, S);
+    Plan::new(7, &links)
+}
+
+/// In plans of 13 to 64 links, at each place: each call shows the length's own values, a sitting that carries on too.
+#[test]
+fn every_length_at_some_place() {
+    let pair = |answer: Answer| (answer.low, answer.high);
+    let none = between(&[0]);
+    for length in lengths() {
+        let (low, high) = (units(length.low), units(length.high));
+        let count = 13 + length.k as usize % 52;
+        for place in [length.k as usize % count, count - 1] {
+            let plan = hanging_on(&length, place, count);
+            assert_eq!(pair(figure(&plan, 20)), (low, high));
+            let next = (place + 1) % count;
+            assert_eq!(pair(importance(&plan, next, 20)), (low, high));
+            assert_eq!(pair(difference(&plan, &none, 20)), (low, high));
+            assert_eq!(pair(difference(&none, &plan, 20)), (-high, -low));
+            let first = sat(&plan.bytes(), 1, &NOTHING);
+            assert!(!sat_answer(&first).finished);
+            let rest = sat(&plan.bytes(), 20, &first.work);
+            assert_eq!(pair(sat_answer(&rest)), (low, high));
+        }
+    }
+}
+
 /// Two lengths side by side, and two one behind the other.
 #[test]
 fn every_length_with_another() {
@@ -347,7 +355,7 @@ fn exact_figures_that_are_known() {
     let others = two_ways_round();
     let floors = [43_041_964, 15_783_918, 4_434_228, 3_215_373, 144_456_293];
     for (i, floor) in floors.into_iter().enumerate() {
-        let answer = importance(&others, i as u64, 20_000);
+        let answer = importance(&others, i, 20_000);
         hold_between(&Exact::importance(&others, i), floor, &answer);
     }
     for (a, b, floor) in [(&four, &others, 503_317), (&others, &four, -503_318)] {
@@ -356,352 +364,8 @@ fn exact_figures_that_are_known() {
     }
 }
 
-fn splits(plan: &Plan) -> u64 {
-    needed(Network::from(plan))
-}
-
-/// How many of ten links are lengths: all in half of the plans, and some in the others.
-fn of_ten(random: &mut Random) -> usize {
-    match random.below(2) {
-        0 => 10,
-        _ => 3 + random.below(5),
-    }
-}
-
-/// Meshed plans and plans of all kinds, with lengths, of few enough splits.
-fn any_plan(random: &mut Random, most_links: usize, most_splits: u64) -> Plan {
-    loop {
-        let nodes = 3 + random.below(10) as u8;
-        let count = 3 + random.below(most_links - 2);
-        let plan = match random.below(3) {
-            0 => Plan::random_of(random, nodes, count),
-            1 => Plan::meshed(random, 4 + nodes % 4, count),
-            _ => Plan::meshed(random, nodes, count),
-        };
-        let of_ten = of_ten(random);
-        let plan = plan.with_lengths(random, of_ten);
-        if splits(&plan) <= most_splits {
-            return plan;
-        }
-    }
-}
-
-/// Whether an answer is no wider than it may be where it is finished.
-fn is_narrow(answer: &Answer, widest: i64) -> bool {
-    answer.low <= answer.high && (!answer.finished || answer.high - answer.low <= widest)
-}
-
-/// Each call on plans of up to 28 links, held to the rule, at limits around the splits that they need.
-#[test]
-fn the_calls_on_random_plans() {
-    let mut random = Random::new(152);
-    let (mut lengths_alone, mut with_splits) = (0, 0);
-    let mut before = any_plan(&mut random, 28, 1_000);
-    for _ in 0..500 {
-        let plan = any_plan(&mut random, 28, 1_000);
-        let needed = splits(&plan);
-        lengths_alone += usize::from(plan.lengths() == plan.links.len());
-        with_splits += usize::from(needed > 1);
-        for limit in limits_around(needed) {
-            assert!(is_narrow(&figure(&plan, limit), widest(&plan)));
-            let place = random.below(plan.links.len());
-            let both = importance(&plan, place as u64, limit);
-            assert!(is_narrow(&both, widest_importance(&plan, place)));
-            for (a, b) in [(&plan, &before), (&before, &plan)] {
-                let both = difference(a, b, limit);
-                assert!(is_narrow(&both, widest_difference(a, b)));
-            }
-            let first = sat(&plan.bytes(), limit, &NOTHING);
-            sat(&plan.bytes(), random.up_to(needed), &first.work);
-        }
-        before = plan;
-    }
-    assert!(lengths_alone > 200 && with_splits > 200);
-}
-
-#[test]
-fn the_calls_on_plans_of_64_links() {
-    let mut random = Random::new(153);
-    for nodes in [2, 5, 9, 14, 20, 26, 32] {
-        for of_ten in [10, 5] {
-            let mut plan = || Plan::random_of(&mut random, nodes, 64);
-            let plans = [plan(), plan()];
-            let [a, b] = plans.map(|plan| plan.with_lengths(&mut random, of_ten));
-            for limit in [0, 1, 100, 3_000] {
-                figure(&a, limit);
-                difference(&a, &b, limit);
-                importance(&a, random.below(64) as u64, limit);
-                let first = sat(&a.bytes(), limit, &NOTHING);
-                sat(&a.bytes(), 500, &first.work);
-            }
-        }
-    }
-}
-
-/// Complete graphs at the splits that they need and at one less, in one run and in two sittings.
-#[test]
-fn the_calls_on_complete_graphs() {
-    let mut random = Random::new(162);
-    for (nodes, needed) in [(7, 119), (8, 722), (9, 5_054), (10, 40_528)] {
-        let mut plan = || Plan::complete(nodes, 0).with_lengths(&mut random, 10);
-        let (a, b) = (plan(), plan());
-        for limit in [needed - 1, needed] {
-            let whole = figure(&a, limit);
-            assert_eq!((whole.steps, whole.finished), (limit, limit == needed));
-            assert!(is_narrow(&whole, widest(&a)));
-            assert_eq!(difference(&a, &b, limit).steps, 2 * limit);
-            assert!(importance(&a, 5, limit).finished);
-            let half = sat(&a.bytes(), limit / 2, &NOTHING);
-            let rest = sat(&a.bytes(), limit - limit / 2, &half.work);
-            assert_eq!(sat_answer(&rest), whole);
-        }
-    }
-}
-
-/// 0, 1, around the splits needed, and above, in ascending order.
-fn limits(needed: u64) -> Vec<u64> {
-    let mut limits = limits_around(needed);
-    limits.extend([1, needed + 2, 2 * needed + 100]);
-    limits.sort();
-    limits
-}
-
-/// Answers under growing limits: each encloses the exact number and lies within the one before, and those that are finished are at
-/// most so wide.
-fn hold_answers(exact: &Exact, answers: &[Answer], widest: i64) {
-    for answer in answers {
-        assert!(exact.is_enclosed_by(answer), "{answer:?}");
-        assert!(is_narrow(answer, widest), "{answer:?} {widest}");
-    }
-    for pair in answers.windows(2) {
-        let nested = pair[0].low <= pair[1].low && pair[1].high <= pair[0].high;
-        assert!(nested, "{pair:?}");
-    }
-}
-
-fn answers(limits: &[u64], worked: impl Fn(u64) -> Answer) -> Vec<Answer> {
-    limits.iter().map(|limit| worked(*limit)).collect()
-}
-
-fn hold_figure(plan: &Plan) -> u64 {
-    let needed = splits(plan);
-    let answers = answers(&limits(needed), |limit| {
-        let answer = figure(plan, limit);
-        assert_eq!(answer.steps, needed.min(limit), "{plan:?} {limit}");
-        assert_eq!(answer.finished, needed <= limit, "{plan:?} {limit}");
-        answer
-    });
-    hold_answers(&Exact::figure(plan), &answers, widest(plan));
-    needed
-}
-
-#[test]
-fn figures_against_exact_sums() {
-    let mut random = Random::new(154);
-    let mut splits = 0;
-    for i in 0..1_500usize {
-        let of_ten = of_ten(&mut random);
-        let plan = match i % 3 {
-            0 => Plan::random(&mut random, 10, 11),
-            _ => Plan::meshed(&mut random, (4 + i % 4) as u8, 6 + i % 6),
-        };
-        splits += hold_figure(&plan.with_lengths(&mut random, of_ten));
-    }
-    assert!(splits > 1_000, "too few splits: {splits}");
-}
-
-#[test]
-fn figures_of_sixteen_lengths_against_exact_sums() {
-    let mut random = Random::new(155);
-    let mut splits = 0;
-    for i in 0..60 {
-        let plan = Plan::meshed(&mut random, 7 + i % 6, MOST);
-        let plan = plan.with_lengths(&mut random, 10);
-        assert_eq!((plan.links.len(), plan.lengths()), (MOST, MOST));
-        splits += hold_figure(&plan);
-    }
-    assert!(splits > 200, "too few splits: {splits}");
-}
-
-/// Small plans of all kinds, with lengths.
-fn small_plan(random: &mut Random, most_links: usize) -> Plan {
-    let of_ten = of_ten(random);
-    let plan = match random.below(2) {
-        0 => Plan::random(random, 8, most_links),
-        _ => {
-            let nodes = 4 + random.below(3) as u8;
-            let count = 6 + random.below(most_links - 5);
-            Plan::meshed(random, nodes, count)
-        }
-    };
-    plan.with_lengths(random, of_ten)
-}
-
-#[test]
-fn importances_against_exact_sums() {
-    let mut random = Random::new(156);
-    let mut steps = 0;
-    for _ in 0..250 {
-        let plan = small_plan(&mut random, 11);
-        let limits = limits(splits(&plan));
-        for i in 0..plan.links.len() {
-            let answers = answers(&limits, |limit| importance(&plan, i as u64, limit));
-            assert!(answers.iter().all(|answer| answer.low >= 0));
-            let exact = Exact::importance(&plan, i);
-            hold_answers(&exact, &answers, widest_importance(&plan, i));
-            steps += answers.last().unwrap().steps;
-        }
-    }
-    assert!(steps > 1_000, "too few steps: {steps}");
-}
-
-/// Plans that have nothing to do with each other, and a plan with the same plan in which one length is another or is left out.
-#[test]
-fn differences_against_exact_sums() {
-    let mut random = Random::new(157);
-    let mut signs = [0; 3];
-    for i in 0..400 {
-        let a = small_plan(&mut random, 10);
-        let mut b = small_plan(&mut random, 10);
-        if i % 2 == 0 && !a.links.is_empty() {
-            b = a.clone();
-            let place = random.below(b.links.len());
-            match i % 4 {
-                0 => b.links[place].value = LENGTH + random.below(512) as u32,
-                _ => drop(b.links.remove(place)),
-            }
-        }
-        let most = splits(&a).max(splits(&b));
-        for (a, b) in [(&a, &b), (&b, &a), (&a, &a)] {
-            let answers = answers(&limits(most), |limit| difference(a, b, limit));
-            let exact = Exact::difference(a, b);
-            hold_answers(&exact, &answers, widest_difference(a, b));
-            for answer in answers {
-                signs[usize::from(answer.low >= 0) + usize::from(answer.high >= 0)] += 1;
-            }
-        }
-    }
-    assert!(signs.iter().all(|count| *count > 300), "{signs:?}");
-}
-
-/// Two plans of sixteen lengths each: 96 powers of S in the exact difference.
-#[test]
-fn differences_of_sixteen_lengths() {
-    let mut random = Random::new(158);
-    for _ in 0..8 {
-        let mut plan = || Plan::meshed(&mut random, 8, MOST);
-        let plans = [plan(), plan()];
-        let [a, b] = plans.map(|plan| plan.with_lengths(&mut random, 10));
-        let most = splits(&a).max(splits(&b));
-        let answers = answers(&limits(most), |limit| difference(&a, &b, limit));
-        let exact = Exact::difference(&a, &b);
-        hold_answers(&exact, &answers, widest_difference(&a, &b));
-    }
-}
-
-/// Sittings from this work to the end, of some steps each: their answers.
-fn to_the_end(random: &mut Random, plan: &[u8], saved: &[u8]) -> Vec<Answer> {
-    let mut now = sat(plan, 0, saved);
-    let mut answers = vec![sat_answer(&now)];
-    while !is_complete(&now) {
-        now = sat(plan, 1 + random.of_any_size(40), &now.work);
-        answers.push(sat_answer(&now));
-    }
-    answers
-}
-
-/// Work of so many steps by the first link's rule.
-fn by_first_link(plan: &[u8], limit: u64) -> Vec<u8> {
-    let saved = &NOTHING;
-    let first = Sitting { plan, limit, saved };
-    let sat = first.outcome_by(Choice::FirstLink, 16, WORK);
-    sat.unwrap().work
-}
-
-/// Sittings from nothing end as one run does; sittings from the first link's work may end with another pair. Both enclose the exact
-/// figure all the way.
-#[test]
-fn sittings_against_exact_sums() {
-    let mut random = Random::new(159);
-    let (mut cut, mut changed) = (0, 0);
-    for _ in 0..250 {
-        let plan = small_plan(&mut random, 14);
-        let (file, exact) = (plan.bytes(), Exact::figure(&plan));
-        let afresh = to_the_end(&mut random, &file, &NOTHING);
-        hold_answers(&exact, &afresh, widest(&plan));
-        let whole = *afresh.last().unwrap();
-        assert_eq!(whole, figure(&plan, MOST_STEPS));
-        let first_link = needed_by(Choice::FirstLink, Network::from(&plan));
-        for steps in [1, first_link / 2, first_link.saturating_sub(1)] {
-            let old = by_first_link(&file, steps);
-            let carried = to_the_end(&mut random, &file, &old);
-            hold_answers(&exact, &carried, widest(&plan));
-            let end = carried.last().unwrap();
-            changed += usize::from((end.low, end.high) != (whole.low, whole.high));
-            cut += usize::from(carried.len() > 2);
-        }
-    }
-    assert!(cut > 100 && changed > 5, "{cut} cut, {changed} changed");
-}
-
-/// Larger plans in sittings, by the rule alone: nested, and at the end what one run gives.
-#[test]
-fn sittings_of_larger_plans() {
-    let mut random = Random::new(160);
-    let mut cut = 0;
-    for _ in 0..60 {
-        let plan = any_plan(&mut random, 30, 2_000);
-        let file = plan.bytes();
-        let answers = to_the_end(&mut random, &file, &NOTHING);
-        for pair in answers.windows(2) {
-            let nested = pair[0].low <= pair[1].low && pair[1].high <= pair[0].high;
-            assert!(nested, "{pair:?}");
-        }
-        assert_eq!(*answers.last().unwrap(), figure(&plan, MOST_STEPS));
-        let old = by_first_link(&file, 1 + random.up_to(splits(&plan)));
-        to_the_end(&mut random, &file, &old);
-        cut += answers.len();
-    }
-    assert!(cut > 500, "{cut}");
-}
-
-/// The plan with the rating of each length as a value in units: its chances before the joints.
-fn without_joints(plan: &Plan) -> Plan {
-    let mut other = plan.clone();
-    for link in &mut other.links {
-        link.value = link.rating().unwrap_or(link.value);
-    }
-    other
-}
-
-/// Work from before the joints is not told from other work: begun, it is carried on with the values of now; complete, it stays.
-#[test]
-fn work_from_before_the_joints() {
-    let mut random = Random::new(161);
-    let mut other_pairs = 0;
-    for _ in 0..150 {
-        let plan = any_plan(&mut random, 24, 1_000);
-        let before = without_joints(&plan);
-        let needed = splits(&plan);
-        let steps = random.up_to(needed);
-        let [old, new] = [&before, &plan].map(|plan| sat(&plan.bytes(), steps, &NOTHING));
-        assert_eq!(old.work[..4], new.work[..4]);
-        if is_complete(&old) {
-            assert_eq!(sat(&plan.bytes(), 9, &old.work), old);
-            continue;
-        }
-        let [open, open_now] = [&old, &new].map(|sat| Begun::of(&sat.work));
-        assert_eq!(open.places, open_now.places);
-        other_pairs += usize::from(open.pairs != open_now.pairs);
-        for limit in [0, 1, needed] {
-            sat(&plan.bytes(), limit, &old.work);
-        }
-    }
-    assert!(other_pairs > 30, "{other_pairs}");
-}
-
 /// In units, a tree of nine nodes is at most 16 wide: it has eight products, each of which adds less than two. With lengths its
-/// links have a width of their own. No plan has been found, by a search, that is wider than 2m + 4n: rings come to half of it.
+/// links have a width of their own.
 #[test]
 fn a_tree_is_wider_by_its_lengths() {
     let ends = [
@@ -724,8 +388,8 @@ fn a_tree_is_wider_by_its_lengths() {
         answer.high - answer.low
     };
     assert_eq!(width(&tree), 21);
-    assert!(width(&without_joints(&tree)) <= 16);
     assert!(Exact::figure(&tree).is_enclosed_by(&figure(&tree, 0)));
+    assert!(width(&tree.without_joints()) <= 16);
 }
 
 /// The lines of the links of what `planlist` writes, which is the text by the rule.
