@@ -701,7 +701,8 @@ fn work_from_before_the_joints() {
 }
 
 /// In units, a tree of nine nodes is at most 16 wide: it has eight products, each of which adds less than two. With lengths its
-/// links have a width of their own. No plan has been found, by a search, that is wider than 2m + 4n: rings come to half of it.
+/// links have a width of their own. No plan has been found, by a search, that is wider than 2m + 4n: rings come to little more than
+/// half of it.
 #[test]
 fn a_tree_is_wider_by_its_lengths() {
     let ends = [
