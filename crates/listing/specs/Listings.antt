@@ -29,7 +29,7 @@ listing plan = listingBy (verdict plan) plan
 
 -- ---- how wide an importance may be
 
--- no finished importance has its high further above its low than this: both evaluations' bounds, each with all m links and n nodes
+-- no finished importance has its high further above its low than this: both evaluations' bounds, each with all m links, L of them given by length, and n nodes
 abbrev pub importanceWidth : List ℕ → ℕ
 importanceWidth plan = 4 * sizeM plan + 8 * sizeN plan + 8 * lengths plan
 

@@ -19,7 +19,7 @@ unfolding from
 length-from i zero = refl
 length-from i (suc k) = ap suc (length-from (suc i) k)
 
-within : (i k v : ℕ) → i ≤ v → v < i + k → List·Memᴰ v (from i k)
+pub within : (i k v : ℕ) → i ≤ v → v < i + k → List·Memᴰ v (from i k)
 unfolding from
 within i zero v h l = absurd (omega arith)
 within i (suc k) v h l = go (ℕ-discrete v i) (within (suc i) k v)

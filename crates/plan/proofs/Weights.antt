@@ -17,6 +17,7 @@ use Rattle.reliability.specs.Networks.{linked, filter}
 use Rattle.reliability.specs.Exact.{total, Enclosed, AllEnclosed, nil, cons, altogether}
 use Rattle.reliability.specs.Rule.{deleteAt}
 use Rattle.reliability.proofs.Lists.{map-delete, length-delete}
+use Rattle.reliability.proofs.Weights.{link-enclosed}
 use Rattle.search.specs.Searches.{from}
 use Rattle.plan.specs.declared.Rated.{Rated}
 use Rattle.plan.specs.declared.Rated.the-variants.{Units, OfLength}
@@ -35,9 +36,7 @@ Fits x y r = Enclosed (unitsOff r) (linked x y (λ d. valueOf d r)) (record { jo
 
 module _ (x y : ℕ) where
   in-units : (v : ℕ) → v ≤ S → Fits x y (Units v)
-  in-units v h =
-      let all : v + (S - v) ≡ S = add-sub-of-le h in
-      record { joins = refl; some = rw all (lit< tt); low = rw all (omega arith); low-near = rw all (omega arith); high = rw all (omega arith); high-near = rw all (omega arith) }
+  in-units v h = link-enclosed 0 (linked x y (λ d. v)) h (le-refl v) (omega arith)
 
   by-length : (k : ℕ) → Fits x y (OfLength k)
   by-length k =

@@ -282,6 +282,6 @@ splits (taken i e sound broken) = splits sound + splits broken
 abbrev pub needed : Network → ℕ
 needed g = splits (tree g)
 
--- the units by which each figure of a finished pair may be off, for m links and n nodes, beside the links' own units: so the pair is at most 2m + 4n wide where these have none
+-- the units by which each figure of a finished pair may be off, for m links and n nodes, beside what its links' values are off themselves: where they are exact, a finished pair is at most 2m + 4n wide
 abbrev pub budget : ℕ → ℕ → ℕ
 budget m n = m + 2 * n

@@ -1,9 +1,8 @@
-use Prim.Native.Nat.{ℕ, zero, suc, _+_, _-_, _≤_, _<_}
+use Prim.Native.Nat.{ℕ, _+_, _-_, _≤_, _<_}
 use mathlib.Core.Path.{_≡_, sym, ap, ap₂, _∙_, subst, subst₂}
-use mathlib.Core.List.{List, [], _∷_, _++_, map, List·Memᴰ, List·Memᴰ·head, List·Memᴰ·tail}
+use mathlib.Core.List.{List, [], _∷_, _++_, map, Memᴰ·map}
 use Rattle.reliability.specs.declared.Link.{Link}
 use native.Mathlib.Omega.{arith}
-use native.Mathlib.Decide.{ℕ-discrete}
 use Rattle.reliability.specs.Networks.{Proper}
 use borrow.Author.Needs.{needs}
 use Rattle.search.specs.Searches.{from}
@@ -12,7 +11,7 @@ use Rattle.plan.specs.declared.Verdict.the-variants.{Accepted}
 use Rattle.plan.specs.Plans.{sizeN, sizeM, verdict, linkIn, WellFormed}
 use Rattle.plan.proofs.Verdicts.{accepted-means}
 use Rattle.plan.proofs.Links.{from-more}
-use Rattle.plan.proofs.Accepted.{plan-valid}
+use Rattle.plan.proofs.Accepted.{within, plan-valid}
 use Rattle.loading.proofs.network_of.Statement.{statement}
 use Rattle.loading.proofs.network_of.Tie as tie
 
@@ -20,18 +19,8 @@ abbrev Inv-loop : tie.InvT-loop
 Inv-loop plan m net₀ i₀ net i =
     (m ≡ sizeM plan) × (i ≤ m) × Built net i × Invariant net × (nodesOf net ≡ from 0 (sizeN plan)) × (linksOf net ≡ map (linkIn plan) (from 0 i))
 
--- the link at a place is one of the links
-link-mem : (b : List ℕ) (i k j : ℕ) → i ≤ j → j < i + k → List·Memᴰ (linkIn b j) (map (linkIn b) (from i k))
-unfolding from
-link-mem b i zero j h l = absurd (omega arith)
-link-mem b i (suc k) j h l = go (ℕ-discrete j i) (link-mem b (suc i) k j)
-  where
-    go : Dec (j ≡ i) → (suc i ≤ j → j < suc i + k → List·Memᴰ (linkIn b j) (map (linkIn b) (from (suc i) k))) → List·Memᴰ (linkIn b j) (linkIn b i ∷ map (linkIn b) (from (suc i) k))
-    go (yes e) later = List·Memᴰ·head (ap (linkIn b) e)
-    go (no n) later = List·Memᴰ·tail (later (omega arith) (omega arith))
-
 proper-in : (b : List ℕ) (j : ℕ) → verdict b ≡ Accepted → j < sizeM b → Proper (from 0 (sizeN b)) (linkIn b j)
-proper-in b j accepted h = plan-valid b accepted .proper (linkIn b j) (link-mem b 0 (sizeM b) j (omega arith) (omega arith))
+proper-in b j accepted h = plan-valid b accepted .proper (linkIn b j) (Memᴰ·map (linkIn b) (within 0 (sizeM b) j (omega arith) (omega arith)))
 
 abbrev μ-loop : tie.MeasureT-loop
 μ-loop plan m net₀ i₀ net i = m - i
