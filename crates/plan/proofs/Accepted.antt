@@ -10,6 +10,7 @@ use Rattle.reliability.specs.declared.Link.{Link}
 use Rattle.reliability.specs.Networks.{Valid, linked, linkAt}
 use Rattle.plan.specs.declared.Verdict.the-variants.{Accepted}
 use Rattle.plan.specs.Plans.{sizeN, sizeM, firstEnd, secondEnd, verdict, linkIn, planOf}
+use Rattle.ratings.specs.Ratings.{AtMostS}
 use Rattle.search.specs.Searches.{from}
 use Rattle.search.proofs.Sets.{ascending-from}
 use Rattle.plan.proofs.Links.{at-place, links-proper}
@@ -28,19 +29,19 @@ within i (suc k) v h l = go (ℕ-discrete v i) (within (suc i) k v)
     go (yes e) later = List·Memᴰ·head e
     go (no n) later = List·Memᴰ·tail (later (omega arith) (omega arith))
 
-module _ (b : List ℕ) where
-  pub plan-valid : verdict b ≡ Accepted → Valid (planOf b)
-  plan-valid h = record { ascending = ascending-from 0 (sizeN b); proper = links-proper b (from 0 (sizeN b)) (λ v l. within 0 (sizeN b) v (omega arith) (omega arith)) h }
+module _ (rating : ℕ → ℕ) (b : List ℕ) where
+  pub plan-valid : AtMostS rating → verdict b ≡ Accepted → Valid (planOf rating b)
+  plan-valid most h = record { ascending = ascending-from 0 (sizeN b); proper = links-proper rating most b (from 0 (sizeN b)) (λ v l. within 0 (sizeN b) v (omega arith) (omega arith)) h }
 
-  pub plan-links : length (planOf b .links) ≡ sizeM b
-  plan-links = length-map (from 0 (sizeM b)) (linkIn b) ∙ length-from 0 (sizeM b)
+  pub plan-links : length (planOf rating b .links) ≡ sizeM b
+  plan-links = length-map (from 0 (sizeM b)) (linkIn rating b) ∙ length-from 0 (sizeM b)
 
-  pub plan-nodes : length (planOf b .nodes) ≡ sizeN b
+  pub plan-nodes : length (planOf rating b .nodes) ≡ sizeN b
   plan-nodes = length-from 0 (sizeN b)
 
   -- the ends of a link are those of the file
-  pub plan-ends : (i : ℕ) → i < sizeM b → (linkAt (planOf b) i .a ≡ firstEnd b i) × (linkAt (planOf b) i .b ≡ secondEnd b i)
+  pub plan-ends : (i : ℕ) → i < sizeM b → (linkAt (planOf rating b) i .a ≡ firstEnd b i) × (linkAt (planOf rating b) i .b ≡ secondEnd b i)
   unfolding linkIn
   plan-ends i h =
-      let e = rw (zero-add i) at (at-place (linkIn b) (linked 0 0 (λ d. 0)) 0 (sizeM b) i h) in
+      let e = rw (zero-add i) at (at-place (linkIn rating b) (linked 0 0 (λ d. 0)) 0 (sizeM b) i h) in
       (ap (λ (l : Link). l .a) e, ap (λ (l : Link). l .b) e)

@@ -71,7 +71,7 @@ pub examples : every right rows ≡ true
 unfolding right row loop pair listed rows every verdict linksVerdict linkVerdict rated
 examples = refl
 
-pub listed-links : planOf listed .links ≡ (linked 0 1 (λ d. 900000000) ∷ linked 0 1 (λ d. 800000000) ∷ [])
+pub listed-links : planOf T listed .links ≡ (linked 0 1 (λ d. 900000000) ∷ linked 0 1 (λ d. 800000000) ∷ [])
 unfolding listed from linkIn rated
 listed-links = refl
 
@@ -83,6 +83,6 @@ pub mixed-lengths : (lengths mixed ≡ 1) × (otherLengths mixed 0 ≡ 1) × (ot
 unfolding mixed lengthsAmong filter deleteAt from rated
 mixed-lengths = (refl, refl, refl)
 
-pub mixed-exact : exactOf mixed ≡ 1000000000 ^ 4 - 500000000 * (1000000000 ^ 3 - 1000000000 * 999950000 ^ 2)
+pub mixed-exact : exactOf T mixed ≡ 1000000000 ^ 4 - 500000000 * (1000000000 ^ 3 - 1000000000 * 999950000 ^ 2)
 unfolding mixed exactOf weightIn sum connected every label merge linkIn from rated T
 mixed-exact = refl

@@ -10,8 +10,7 @@ use borrow.Author.Tests.{leb-true}
 use Rattle.rounding.specs.Rounding.{S, quotient, product}
 use Rattle.rounding.specs.declared.Direction.{Direction}
 use Rattle.rounding.specs.declared.Direction.the-variants.{Down, Up}
-use Rattle.ratings.specs.Ratings.{T, withJoints}
-use Rattle.ratings.proofs.Laws.{range}
+use Rattle.ratings.specs.Ratings.{T, AtMostS, withJoints}
 use Rattle.ratings.proofs.Joints.{joints-range, joints-order}
 use Rattle.plan.specs.declared.Rated.{Rated}
 use Rattle.plan.specs.declared.Rated.the-variants.{Units, OfLength, Unrated}
@@ -19,7 +18,7 @@ use Rattle.plan.specs.Plans.{ratedBy, rated, valueOf}
 
 -- 0, S and a value between in units; lengths of 0 and 51,100 metres; one more stands for none
 pub worked : Direction → List ℕ
-worked d = map (λ w. valueOf d (rated w)) (0 ∷ 1000000000 ∷ 999700000 ∷ 2147483648 ∷ 2147484159 ∷ 2147484160 ∷ [])
+worked d = map (λ w. valueOf T d (rated w)) (0 ∷ 1000000000 ∷ 999700000 ∷ 2147483648 ∷ 2147484159 ∷ 2147484160 ∷ [])
 
 pub lows : worked Down ≡ (0 ∷ 1000000000 ∷ 999700000 ∷ 999900002 ∷ 857766565 ∷ 0 ∷ [])
 unfolding worked rated T withJoints product quotient
@@ -41,11 +40,12 @@ by-rated P units length none w = go (leb w S) (leb 2147483648 w) (leb (w - 21474
     go false false u h k = none
 
 -- it is a chance, low no higher than high
-pub value-range : (d : Direction) (w : ℕ) → valueOf d (rated w) ≤ S
-value-range d = by-rated (λ r. valueOf d r ≤ S) (λ v h. h) (λ k h. joints-range d (T k) (range k)) zero-le
+module _ (rating : ℕ → ℕ) where
+  pub value-range : AtMostS rating → (d : Direction) (w : ℕ) → valueOf rating d (rated w) ≤ S
+  value-range most d = by-rated (λ r. valueOf rating d r ≤ S) (λ v h. h) (λ k h. joints-range d (rating k) (most k h)) zero-le
 
-pub value-order : (w : ℕ) → valueOf Down (rated w) ≤ valueOf Up (rated w)
-value-order = by-rated (λ r. valueOf Down r ≤ valueOf Up r) (λ v h. le-refl v) (λ k h. joints-order (T k)) (le-refl 0)
+  pub value-order : (w : ℕ) → valueOf rating Down (rated w) ≤ valueOf rating Up (rated w)
+  value-order = by-rated (λ r. valueOf rating Down r ≤ valueOf rating Up r) (λ v h. le-refl v) (λ k h. joints-order (rating k)) (le-refl 0)
 
 -- the hundred metres of a length
 abbrev hundreds : Rated → ℕ

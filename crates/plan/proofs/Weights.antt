@@ -10,8 +10,7 @@ use lib.ListN.{length}
 use lib.Pow.{pow-add}
 use Rattle.rounding.specs.Rounding.{S}
 use Rattle.rounding.specs.declared.Direction.the-variants.{Down, Up}
-use Rattle.ratings.specs.Ratings.{T, J}
-use Rattle.ratings.proofs.Laws.{range}
+use Rattle.ratings.specs.Ratings.{AtMostS, J}
 use Rattle.ratings.proofs.Joints.{joints-bound, joints-near}
 use Rattle.reliability.specs.Networks.{linked, filter}
 use Rattle.reliability.specs.Exact.{total, Enclosed, AllEnclosed, nil, cons, altogether}
@@ -31,31 +30,34 @@ abbrev pub unitsOff : Rated → ℕ
 unitsOff r = cond (isLength r) 2 0
 
 -- of values and weights between the ends x and y
-abbrev Fits : ℕ → ℕ → Rated → Type 0
-Fits x y r = Enclosed (unitsOff r) (linked x y (λ d. valueOf d r)) (record { joins = record { a = x; b = y }; sound = soundParts r; broken = allParts r - soundParts r })
+abbrev Fits : (rating : ℕ → ℕ) → ℕ → ℕ → Rated → Type 0
+Fits rating x y r =
+    Enclosed (unitsOff r) (linked x y (λ d. valueOf rating d r))
+    (record { joins = record { a = x; b = y }; sound = soundParts rating r; broken = allParts r - soundParts rating r })
 
-module _ (x y : ℕ) where
-  in-units : (v : ℕ) → v ≤ S → Fits x y (Units v)
-  in-units v h = link-enclosed 0 (linked x y (λ d. v)) h (le-refl v) (omega arith)
+module _ (rating : ℕ → ℕ) (most : AtMostS rating) where
+  module _ (x y : ℕ) where
+    in-units : (v : ℕ) → v ≤ S → Fits rating x y (Units v)
+    in-units v h = link-enclosed 0 (linked x y (λ d. v)) h (le-refl v) (omega arith)
 
-  by-length : (k : ℕ) → Fits x y (OfLength k)
-  by-length k =
-      let all : T k * J * J + (S * S * S - T k * J * J) ≡ S * S * S = add-sub-of-le (omega (arith, range k)) in
-      record {
-        joins = refl;
-        some = rw all (lit< tt);
-        low = rw all (omega (arith, joints-bound Down (T k) .order));
-        low-near = rw all (omega (arith, joints-near Down (T k)));
-        high = rw all (omega (arith, joints-bound Up (T k) .order));
-        high-near = rw all (omega (arith, joints-near Up (T k)));
-      }
+    by-length : (k : ℕ) → k ≤ 511 → Fits rating x y (OfLength k)
+    by-length k h =
+        let all : rating k * J * J + (S * S * S - rating k * J * J) ≡ S * S * S = add-sub-of-le (omega (arith, most k h)) in
+        record {
+          joins = refl;
+          some = rw all (lit< tt);
+          low = rw all (omega (arith, joints-bound Down (rating k) .order));
+          low-near = rw all (omega (arith, joints-near Down (rating k)));
+          high = rw all (omega (arith, joints-bound Up (rating k) .order));
+          high-near = rw all (omega (arith, joints-near Up (rating k)));
+        }
 
-  value-fits : (w : ℕ) → Fits x y (rated w)
-  value-fits = by-rated (Fits x y) in-units (λ k h. by-length k) (in-units 0 (lit≤ tt))
+    value-fits : (w : ℕ) → Fits rating x y (rated w)
+    value-fits = by-rated (Fits rating x y) in-units by-length (in-units 0 (lit≤ tt))
 
--- all parts of a link: S, and S × S times as many where it is given by length
-parts : (w : ℕ) → soundParts (rated w) + (allParts (rated w) - soundParts (rated w)) ≡ S ^ (1 + 2 * cond (isLength (rated w)) 1 0)
-parts = by-rated (λ r. soundParts r + (allParts r - soundParts r) ≡ S ^ (1 + 2 * cond (isLength r) 1 0)) (λ v h. add-sub-of-le h) (λ k h. add-sub-of-le (omega (arith, range k))) refl
+  -- all parts of a link: S, and S × S times as many where it is given by length
+  parts : (w : ℕ) → soundParts rating (rated w) + (allParts (rated w) - soundParts rating (rated w)) ≡ S ^ (1 + 2 * cond (isLength (rated w)) 1 0)
+  parts = by-rated (λ r. soundParts rating r + (allParts r - soundParts rating r) ≡ S ^ (1 + 2 * cond (isLength r) 1 0)) (λ v h. add-sub-of-le h) (λ k h. add-sub-of-le (omega (arith, most k h))) refl
 
 -- one link more: one length more where it is given by length
 counted : (t : Bool) (i : ℕ) (is : List ℕ) → length {A = ℕ} (elim t [ true ↦ i ∷ is | false ↦ is ]) ≡ cond t 1 0 + length is
@@ -72,12 +74,6 @@ module _ (b : List ℕ) where
 
   abbrev off : ℕ → ℕ
   off i = unitsOff (rated (fileValue b i))
-
-  -- the links at any places
-  enclosed-at : (is : List ℕ) → AllEnclosed (map off is) (map (linkIn b) is) (map (weightIn b) is)
-  unfolding linkIn weightIn
-  enclosed-at [] = nil
-  enclosed-at (i ∷ is) = cons (value-fits (firstEnd b i) (secondEnd b i) (fileValue b i)) (enclosed-at is)
 
   one-more : (i : ℕ) (is : List ℕ) → lengthsAmong b (i ∷ is) ≡ cond (byLength i) 1 0 + lengthsAmong b is
   unfolding lengthsAmong filter
@@ -99,14 +95,21 @@ module _ (b : List ℕ) where
   fewer-at zero (j ∷ is) = omega (arith, one-more j is)
   fewer-at (suc i) (j ∷ is) = omega (arith, fewer-at i is, one-more j is, one-more j (deleteAt i is))
 
-  -- S to the power of the links and twice the lengths
-  total-at : (is : List ℕ) → total (map (weightIn b) is) ≡ S ^ (length is + 2 * lengthsAmong b is)
-  unfolding total weightIn lengthsAmong filter
-  total-at [] = refl
-  total-at (i ∷ is) =
-      ap₂ _*_ (parts (fileValue b i)) (total-at is)
-      ∙ sym (pow-add S (1 + 2 * cond (byLength i) 1 0) (length is + 2 * lengthsAmong b is))
-      ∙ ap (λ n. S ^ n) (omega (arith, one-more i is))
+  module _ (rating : ℕ → ℕ) (most : AtMostS rating) where
+    -- the links at any places
+    enclosed-at : (is : List ℕ) → AllEnclosed (map off is) (map (linkIn rating b) is) (map (weightIn rating b) is)
+    unfolding linkIn weightIn
+    enclosed-at [] = nil
+    enclosed-at (i ∷ is) = cons (value-fits rating most (firstEnd b i) (secondEnd b i) (fileValue b i)) (enclosed-at is)
+
+    -- S to the power of the links and twice the lengths
+    total-at : (is : List ℕ) → total (map (weightIn rating b) is) ≡ S ^ (length is + 2 * lengthsAmong b is)
+    unfolding total weightIn lengthsAmong filter
+    total-at [] = refl
+    total-at (i ∷ is) =
+        ap₂ _*_ (parts rating most (fileValue b i)) (total-at is)
+        ∙ sym (pow-add S (1 + 2 * cond (byLength i) 1 0) (length is + 2 * lengthsAmong b is))
+        ∙ ap (λ n. S ^ n) (omega (arith, one-more i is))
 
 -- the links of a plan: its weights are enclosed, they come to S to the power m + 2L, and its links may be off by 2L units in all
 module _ (b : List ℕ) where
@@ -116,14 +119,16 @@ module _ (b : List ℕ) where
   abbrev pub unitsIn : List ℕ
   unitsIn = map (off b) places
 
-  pub plan-enclosed : AllEnclosed unitsIn (planOf b .links) (weightsOf b)
-  plan-enclosed = enclosed-at b places
-
   pub plan-units : altogether unitsIn ≡ 2 * lengths b
   plan-units = units-at b places
 
-  pub plan-total : total (weightsOf b) ≡ S ^ (sizeM b + 2 * lengths b)
-  plan-total = total-at b places ∙ ap (λ m. S ^ (m + 2 * lengths b)) (length-from 0 (sizeM b))
+  -- under whatever rating is at most S
+  module _ (rating : ℕ → ℕ) (most : AtMostS rating) where
+    pub plan-enclosed : AllEnclosed unitsIn (planOf rating b .links) (weightsOf rating b)
+    plan-enclosed = enclosed-at b rating most places
+
+    pub plan-total : total (weightsOf rating b) ≡ S ^ (sizeM b + 2 * lengths b)
+    plan-total = total-at b rating most places ∙ ap (λ m. S ^ (m + 2 * lengths b)) (length-from 0 (sizeM b))
 
   pub plan-lengths : lengths b ≤ sizeM b
   plan-lengths = omega (arith, few-at b places, length-from 0 (sizeM b))
@@ -139,8 +144,8 @@ module _ (b : List ℕ) where
     pub others-few : otherLengths b i ≤ lengths b
     others-few = fewer-at b i places
 
-    pub others-total : i < sizeM b → total (deleteAt i (weightsOf b)) ≡ S ^ (sizeM b - 1 + 2 * otherLengths b i)
-    others-total place =
+    pub others-total : (rating : ℕ → ℕ) → AtMostS rating → i < sizeM b → total (deleteAt i (weightsOf rating b)) ≡ S ^ (sizeM b - 1 + 2 * otherLengths b i)
+    others-total rating most place =
         let size = length-from 0 (sizeM b) in
         let fewer : length others ≡ sizeM b - 1 = omega (arith, length-delete {i = i} places (omega arith)) in
-        ap total (sym (map-delete (weightIn b) i places)) ∙ total-at b others ∙ ap (λ m. S ^ (m + 2 * otherLengths b i)) fewer
+        ap total (sym (map-delete (weightIn rating b) i places)) ∙ total-at b rating most others ∙ ap (λ m. S ^ (m + 2 * otherLengths b i)) fewer

@@ -8,7 +8,7 @@ use lib.ListN.{length}
 pub use Rattle.reader.specs.Layout.{sizeN, sizeM, firstEnd, secondEnd, fileValue}
 use Rattle.rounding.specs.Rounding.{S}
 use Rattle.rounding.specs.declared.Direction.{Direction}
-use Rattle.ratings.specs.Ratings.{T, withJoints}
+use Rattle.ratings.specs.Ratings.{withJoints}
 use Rattle.reliability.specs.declared.Link.{Link}
 use Rattle.reliability.specs.Networks.{Network, linked}
 use Rattle.search.specs.Searches.{from}
@@ -35,11 +35,11 @@ isRated (Units v) = true
 isRated (OfLength k) = true
 isRated Unrated = false
 
--- in units, rounded: a length stands for a cable of chance T[k] with both its joints
-abbrev pub valueOf : Direction → Rated → ℕ
-valueOf d (Units v) = v
-valueOf d (OfLength k) = withJoints d (T k)
-valueOf d Unrated = 0
+-- in units, rounded: a length stands for a cable of the chance that a rating by length gives it, with both its joints
+abbrev pub valueOf : (rating : ℕ → ℕ) → Direction → Rated → ℕ
+valueOf rating d (Units v) = v
+valueOf rating d (OfLength k) = withJoints d (rating k)
+valueOf rating d Unrated = 0
 
 -- ---- the causes of refusal, in the order in which they are tested
 
@@ -113,11 +113,11 @@ abbrev pub returned : Verdict → ℕ
 returned Accepted = 0
 returned (Refused c) = number c + 256 * namedLink c
 
--- ---- the network of an accepted plan
+-- ---- the network of an accepted plan, under a rating by length
 
-unfoldable pub linkIn : List ℕ → ℕ → Link
-linkIn b i = linked (firstEnd b i) (secondEnd b i) (λ d. valueOf d (rated (fileValue b i)))
+unfoldable pub linkIn : (rating : ℕ → ℕ) → List ℕ → ℕ → Link
+linkIn rating b i = linked (firstEnd b i) (secondEnd b i) (λ d. valueOf rating d (rated (fileValue b i)))
 
 -- the nodes 0 to n - 1, and the links 0 to m - 1
-abbrev pub planOf : List ℕ → Network
-planOf b = record { nodes = from 0 (sizeN b); links = map (linkIn b) (from 0 (sizeM b)) }
+abbrev pub planOf : (rating : ℕ → ℕ) → List ℕ → Network
+planOf rating b = record { nodes = from 0 (sizeN b); links = map (linkIn rating b) (from 0 (sizeM b)) }

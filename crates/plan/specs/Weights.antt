@@ -1,10 +1,11 @@
--- The exact chances of a plan's links, and its exact reliability: over finer denominators than S where links are given by length.
+-- The exact chances of a plan's links under a rating by length, and its exact reliability: over finer denominators than S where links
+-- are given by length.
 use Prim.Native.Nat.{ℕ, _-_, _*_}
 use mathlib.Core.List.{List, [], map}
 use mathlib.Core.Bool.{Bool, true, false}
 use lib.ListN.{length}
 use Rattle.rounding.specs.Rounding.{S}
-use Rattle.ratings.specs.Ratings.{T, J}
+use Rattle.ratings.specs.Ratings.{J}
 use Rattle.reliability.specs.Networks.{ends, filter}
 use Rattle.reliability.specs.Exact.{Weighted, sum}
 use Rattle.reliability.specs.Rule.{deleteAt}
@@ -13,11 +14,11 @@ use Rattle.plan.specs.declared.Rated.{Rated}
 use Rattle.plan.specs.declared.Rated.the-variants.{Units, OfLength, Unrated}
 use Rattle.plan.specs.Plans.{sizeM, fileValue, rated, linkIn, planOf}
 
--- a value v in units is v parts of S; a length is T[k] × J × J parts of S × S × S
-abbrev pub soundParts : Rated → ℕ
-soundParts (Units v) = v
-soundParts (OfLength k) = T k * J * J
-soundParts Unrated = 0
+-- a value v in units is v parts of S; a length is its rating × J × J parts of S × S × S
+abbrev pub soundParts : (rating : ℕ → ℕ) → Rated → ℕ
+soundParts rating (Units v) = v
+soundParts rating (OfLength k) = rating k * J * J
+soundParts rating Unrated = 0
 
 abbrev pub allParts : Rated → ℕ
 allParts (Units v) = S
@@ -25,16 +26,18 @@ allParts (OfLength k) = S * S * S
 allParts Unrated = S
 
 -- the weights of link i: the parts in which it is sound, and those in which it is broken
-unfoldable pub weightIn : List ℕ → ℕ → Weighted
-weightIn b i = let r = rated (fileValue b i) in record { joins = ends (linkIn b i); sound = soundParts r; broken = allParts r - soundParts r }
+unfoldable pub weightIn : (rating : ℕ → ℕ) → List ℕ → ℕ → Weighted
+weightIn rating b i =
+    let r = rated (fileValue b i) in
+    record { joins = ends (linkIn rating b i); sound = soundParts rating r; broken = allParts r - soundParts rating r }
 
 -- of the links 0 to m - 1
-abbrev pub weightsOf : List ℕ → List Weighted
-weightsOf b = map (weightIn b) (from 0 (sizeM b))
+abbrev pub weightsOf : (rating : ℕ → ℕ) → List ℕ → List Weighted
+weightsOf rating b = map (weightIn rating b) (from 0 (sizeM b))
 
 -- N: the exact reliability is N over S to the power m + 2L (plan-total in proofs/Weights.antt)
-unfoldable pub exactOf : List ℕ → ℕ
-exactOf b = sum (planOf b .nodes) (weightsOf b) []
+unfoldable pub exactOf : (rating : ℕ → ℕ) → List ℕ → ℕ
+exactOf rating b = sum (planOf rating b .nodes) (weightsOf rating b) []
 
 abbrev pub isLength : Rated → Bool
 isLength (Units v) = false

@@ -5,6 +5,7 @@ ghost use mathlib.Core.Path.{_≡_};
 ghost use Prim.Native.Nat.{_+_, _*_, _<_};
 ghost use lib.ListN.{length};
 ghost use Rattle.reader.specs.Layout.{sizeM};
+ghost use Rattle.tables.specs.Tables.{rating, AcceptedTable};
 ghost use Rattle.plan.specs.Plans.{rated, valueOf, linkVerdict, linksVerdict, verdict, number, namedLink, returned, linkIn};
 
 // S.
@@ -52,13 +53,14 @@ fn stands_for(w: u32) -> Rated
     }
 }
 
-// What it stands for in units, rounded.
-fn value_of(d: Direction, w: u32) -> u32
-    ensures { λ r. ⌜ r ≡ valueOf d (rated w) ⌝ }
+// What it stands for in units under a table of ratings, rounded.
+fn value_of(d: Direction, table: &[u8], w: u32) -> u32
+    requires { ⌜ AcceptedTable (now table) ⌝ }
+    ensures { λ r. ⌜ r ≡ valueOf (rating (now (table .entry))) d (rated w) ⌝ }
 {
     match stands_for(w) {
         Rated::Units(v) => v,
-        Rated::OfLength(k) => ratings::with_joints(d, ratings::rating(k)),
+        Rated::OfLength(k) => ratings::with_joints(d, tables::rating(table, k)),
         Rated::Unrated => 0,
     }
 }
@@ -153,16 +155,16 @@ pub fn returned(v: Verdict) -> u64
     }
 }
 
-// Link i of an accepted plan.
-pub fn link_at(plan: &[u8], i: usize) -> Link
-    requires { ⌜ (verdict (now plan) ≡ Verdict.Accepted) × (i < sizeM (now plan)) ⌝ }
-    ensures { λ r. ⌜ r ≡ linkIn (now (plan .entry)) i ⌝ }
+// Link i of an accepted plan under an accepted table.
+pub fn link_at(plan: &[u8], table: &[u8], i: usize) -> Link
+    requires { ⌜ (verdict (now plan) ≡ Verdict.Accepted) × AcceptedTable (now table) × (i < sizeM (now plan)) ⌝ }
+    ensures { λ r. ⌜ r ≡ linkIn (rating (now (table .entry))) (now (plan .entry)) i ⌝ }
 {
     let e = reader::entry_at(plan, i);
     Link {
         a: e.a,
         b: e.b,
-        low: value_of(Direction::Down, e.value),
-        high: value_of(Direction::Up, e.value),
+        low: value_of(Direction::Down, table, e.value),
+        high: value_of(Direction::Up, table, e.value),
     }
 }

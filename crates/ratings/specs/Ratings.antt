@@ -1,5 +1,5 @@
--- The table T: the chance, in units, of a cable of k hundred metres; and the joints at both its ends.
-use Prim.Native.Nat.{ℕ, zero, suc, _*_, _/_}
+-- Ratings by length: the chance, in units, of a cable of k hundred metres. The table T, and the joints at both ends of any cable.
+use Prim.Native.Nat.{ℕ, zero, suc, _*_, _/_, _≤_}
 use Rattle.rounding.specs.Rounding.{S, product}
 use Rattle.rounding.specs.declared.Direction.{Direction}
 
@@ -7,6 +7,10 @@ use Rattle.rounding.specs.declared.Direction.{Direction}
 unfoldable pub T : ℕ → ℕ
 T zero = S
 T (suc k) = T k * 999700000 / S
+
+-- a rating by length is at most S at every length that a plan can have; T is such a one (built-in-range in proofs/Laws.antt)
+abbrev pub AtMostS : (ℕ → ℕ) → Type 0
+AtMostS rating = (k : ℕ) → k ≤ 511 → rating k ≤ S
 
 -- J: the chance, in units, that a joint is sound
 abbrev pub J : ℕ

@@ -1,28 +1,32 @@
 -- Verdicts of a call: the numbers returned, and what is accepted.
 use Prim.Native.Nat.{ℕ, _+_, _≤_, _<_}
-use mathlib.Core.Path.{_≡_, refl}
+use mathlib.Core.Path.{_≡_, refl, sym, ap, _∙_}
 use mathlib.Core.List.{List}
 use mathlib.Core.Logic.{_↔_, Iff·trans}
 use mathlib.Core.Bool.{Bool, true, false, cond}
 use native.Mathlib.Omega.{arith}
 use lib.Dec.{leb, ltb}
 use borrow.Author.Tests.{le-ltb, lt-leb, ltb-false, leb-false}
+use Rattle.tables.specs.Tables.{sized, wellRated, AcceptedTable}
+use Rattle.tables.proofs.Theorems.{accepted-table}
 use Rattle.plan.specs.declared.Cause.{Cause}
 use Rattle.plan.specs.declared.Verdict.{Verdict}
 use Rattle.plan.specs.declared.Verdict.the-variants.{Accepted as PlanAccepted, Refused as PlanRefused}
 use Rattle.plan.specs.Plans.{WellFormed, sizeM, verdict, returned}
 use Rattle.plan.proofs.Verdicts.{number-range, accepted-means}
 use Rattle.refusals.specs.declared.CallCause.{CallCause}
-use Rattle.refusals.specs.declared.CallCause.the-variants.{Limit, Buffer, Place, SavedWork, OpenSplit, Plan, SecondPlan}
+use Rattle.refusals.specs.declared.CallCause.the-variants.{Limit, Buffer, TableSize, TableValues, Place, SavedWork, OpenSplit, Plan, SecondPlan}
 use Rattle.refusals.specs.declared.CallVerdict.{CallVerdict}
 use Rattle.refusals.specs.declared.CallVerdict.the-variants.{Accepted, Refused}
-use Rattle.refusals.specs.Refusals.{callNumber, callReturned, asked, workRoom, planned, plannedSecond, placed, also, figureVerdict, sittingVerdict}
+use Rattle.refusals.specs.Refusals.{callNumber, callReturned, asked, workRoom, tabled, planned, plannedSecond, placed, also, given, figureVerdict, sittingVerdict}
 
 -- ---- the numbers returned
 
 pub call-number-range : (c : CallCause) → (1 ≤ callNumber c) × (callNumber c ≤ 26)
 call-number-range Limit = omega arith
 call-number-range Buffer = omega arith
+call-number-range TableSize = omega arith
+call-number-range TableValues = omega arith
 call-number-range Place = omega arith
 call-number-range SavedWork = omega arith
 call-number-range OpenSplit = omega arith
@@ -81,20 +85,51 @@ pub also-means : (u v : CallVerdict) → also u v ≡ Accepted ↔ (u ≡ Accept
 also-means Accepted v = (λ e. (refl, e), λ h. h .1)
 also-means (Refused c) v = (λ e. let z : _≡_ {A = ℕ} 0 1 = cc in absurd (omega arith), λ h. h .0)
 
--- the causes of a figure: the limit, the buffer, the plan
-pub figure-means : (plan : List ℕ) (limit room : ℕ) → figureVerdict plan limit room ≡ Accepted ↔ (limit ≤ 1000000) × (16 ≤ room) × WellFormed plan
-figure-means plan limit room =
-    let a = asked-means limit room in
+-- both tests of a table are passed
+both-passed : (s t : Bool) → cond s (cond t Accepted (Refused TableValues)) (Refused TableSize) ≡ Accepted → (s ≡ true) × (t ≡ true)
+both-passed true true e = (refl, refl)
+both-passed true false e = let z : _≡_ {A = ℕ} 0 1 = cc in absurd (omega arith)
+both-passed false t e = let z : _≡_ {A = ℕ} 0 1 = cc in absurd (omega arith)
+
+-- an accepted table is the built-in one or 512 values that begin with S and never rise
+pub tabled-means : (table : List ℕ) → tabled table ≡ Accepted ↔ AcceptedTable table
+unfolding tabled
+tabled-means table = Iff·trans (both-passed (sized table) (wellRated table), λ h. rw (h .0, h .1) refl) (accepted-table table)
+
+pub given-means : (plan table : List ℕ) → given plan table ≡ Accepted ↔ AcceptedTable table × WellFormed plan
+given-means plan table =
+    let t = tabled-means table in
     let p = Iff·trans (planned-means (verdict plan)) (accepted-means plan) in
-    let e = also-means (asked limit room) (planned (verdict plan)) in
-    (λ h. (a .0 (e .0 h .0) .0, a .0 (e .0 h .0) .1, p .0 (e .0 h .1)), λ h. e .1 (a .1 (h .0, h .1), p .1 (h .2)))
+    let e = also-means (tabled table) (planned (verdict plan)) in
+    (λ h. (t .0 (e .0 h .0), p .0 (e .0 h .1)), λ h. e .1 (t .1 (h .0), p .1 (h .1)))
+
+-- the causes of a figure: the limit, the buffer, the table, the plan
+pub figure-means : (plan table : List ℕ) (limit room : ℕ) → figureVerdict plan table limit room ≡ Accepted ↔ (limit ≤ 1000000) × (16 ≤ room) × AcceptedTable table × WellFormed plan
+figure-means plan table limit room =
+    let a = asked-means limit room in
+    let g = given-means plan table in
+    let e = also-means (asked limit room) (given plan table) in
+    (λ h. let (x, y) = e .0 h in (a .0 x .0, a .0 x .1, g .0 y .0, g .0 y .1), λ h. e .1 (a .1 (h .0, h .1), g .1 (h .2, h .3)))
 
 -- and of a sitting, but for its saved work: both buffers
-pub sitting-means : (plan : List ℕ) (limit room work : ℕ) → sittingVerdict plan limit room work ≡ Accepted ↔ (limit ≤ 1000000) × (16 ≤ room) × (776 ≤ work) × WellFormed plan
-sitting-means plan limit room work =
+pub sitting-means : (plan table : List ℕ) (limit room work : ℕ)
+    → sittingVerdict plan table limit room work ≡ Accepted ↔ (limit ≤ 1000000) × (16 ≤ room) × (776 ≤ work) × AcceptedTable table × WellFormed plan
+sitting-means plan table limit room work =
     let a = asked-means limit room in
     let w = work-room-means work in
-    let p = Iff·trans (planned-means (verdict plan)) (accepted-means plan) in
+    let g = given-means plan table in
     let b = also-means (asked limit room) (workRoom work) in
-    let e = also-means (also (asked limit room) (workRoom work)) (planned (verdict plan)) in
-    (λ h. (a .0 (b .0 (e .0 h .0) .0) .0, a .0 (b .0 (e .0 h .0) .0) .1, w .0 (b .0 (e .0 h .0) .1), p .0 (e .0 h .1)), λ h. e .1 (b .1 (a .1 (h .0, h .1), w .1 (h .2)), p .1 (h .3)))
+    let e = also-means (also (asked limit room) (workRoom work)) (given plan table) in (
+      λ h. let (x, y) = e .0 h in let (u, v) = b .0 x in (a .0 u .0, a .0 u .1, w .0 v, g .0 y .0, g .0 y .1),
+      λ h. e .1 (b .1 (a .1 (h .0, h .1), w .1 (h .2)), g .1 (h .3, h .4)),
+    )
+
+-- ---- one verdict, then another
+
+-- behind an accepted verdict the next is returned
+pub passed-on : (v u w r : CallVerdict) → v ≡ u → v ≡ Accepted → r ≡ w → r ≡ also u w
+passed-on v u w r e a g = let h : u ≡ Accepted = sym e ∙ a in rw h g
+
+-- a refusal is returned itself
+pub refused-first : (v u w : CallVerdict) (c : CallCause) → v ≡ u → v ≡ Refused c → Refused c ≡ also u w
+refused-first v u w c e r = ap (λ (x : CallVerdict). also x w) (sym r ∙ e)

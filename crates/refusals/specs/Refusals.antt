@@ -3,11 +3,12 @@ use Prim.Native.Nat.{ℕ, _+_, _*_}
 use mathlib.Core.List.{List}
 use mathlib.Core.Bool.{cond}
 use lib.Dec.{leb, ltb}
+use Rattle.tables.specs.Tables.{sized, wellRated}
 use Rattle.plan.specs.declared.Verdict.{Verdict}
 use Rattle.plan.specs.declared.Verdict.the-variants.{Accepted as PlanAccepted, Refused as PlanRefused}
 use Rattle.plan.specs.Plans.{sizeM, verdict, number, namedLink}
 use Rattle.refusals.specs.declared.CallCause.{CallCause}
-use Rattle.refusals.specs.declared.CallCause.the-variants.{Limit, Buffer, Place, SavedWork, OpenSplit, Plan, SecondPlan}
+use Rattle.refusals.specs.declared.CallCause.the-variants.{Limit, Buffer, TableSize, TableValues, Place, SavedWork, OpenSplit, Plan, SecondPlan}
 use Rattle.refusals.specs.declared.CallVerdict.{CallVerdict}
 use Rattle.refusals.specs.declared.CallVerdict.the-variants.{Accepted, Refused}
 
@@ -17,6 +18,8 @@ use Rattle.refusals.specs.declared.CallVerdict.the-variants.{Accepted, R
 abbrev pub callNumber : CallCause → ℕ
 callNumber Limit = 7
 callNumber Buffer = 9
+callNumber TableSize = 12
+callNumber TableValues = 13
 callNumber Place = 8
 callNumber SavedWork = 10
 callNumber OpenSplit = 11
@@ -27,6 +30,8 @@ callNumber (SecondPlan c) = number c + 20
 abbrev pub callLink : CallCause → ℕ
 callLink Limit = 0
 callLink Buffer = 0
+callLink TableSize = 0
+callLink TableValues = 0
 callLink Place = 0
 callLink SavedWork = 0
 callLink OpenSplit = 0
@@ -48,6 +53,10 @@ asked limit room = cond (ltb 1000000 limit) (Refused Limit) (cond (ltb room 16) 
 unfoldable pub workRoom : ℕ → CallVerdict
 workRoom work = cond (ltb work 776) (Refused Buffer) Accepted
 
+-- a table of neither 0 nor 2,048 bytes, then first value not S, or a value above the one before
+unfoldable pub tabled : List ℕ → CallVerdict
+tabled table = cond (sized table) (cond (wellRated table) Accepted (Refused TableValues)) (Refused TableSize)
+
 -- the plan's causes, of plan A and of plan B
 abbrev pub planned : Verdict → CallVerdict
 planned PlanAccepted = Accepted
@@ -66,15 +75,19 @@ abbrev pub also : CallVerdict → CallVerdict → CallVerdict
 also Accepted v = v
 also (Refused c) v = Refused c
 
-abbrev pub figureVerdict : List ℕ → ℕ → ℕ → CallVerdict
-figureVerdict plan limit room = also (asked limit room) (planned (verdict plan))
+-- the table's causes, then the plan's
+abbrev pub given : List ℕ → List ℕ → CallVerdict
+given plan table = also (tabled table) (planned (verdict plan))
 
-abbrev pub importanceVerdict : List ℕ → ℕ → ℕ → ℕ → CallVerdict
-importanceVerdict plan place limit room = also (figureVerdict plan limit room) (placed plan place)
+abbrev pub figureVerdict : List ℕ → List ℕ → ℕ → ℕ → CallVerdict
+figureVerdict plan table limit room = also (asked limit room) (given plan table)
 
-abbrev pub differenceVerdict : List ℕ → List ℕ → ℕ → ℕ → CallVerdict
-differenceVerdict first second limit room = also (figureVerdict first limit room) (plannedSecond (verdict second))
+abbrev pub importanceVerdict : List ℕ → List ℕ → ℕ → ℕ → ℕ → CallVerdict
+importanceVerdict plan table place limit room = also (figureVerdict plan table limit room) (placed plan place)
+
+abbrev pub differenceVerdict : List ℕ → List ℕ → List ℕ → ℕ → ℕ → CallVerdict
+differenceVerdict first second table limit room = also (figureVerdict first table limit room) (plannedSecond (verdict second))
 
 -- of a sitting, before its saved work is looked at
-abbrev pub sittingVerdict : List ℕ → ℕ → ℕ → ℕ → CallVerdict
-sittingVerdict plan limit room work = also (also (asked limit room) (workRoom work)) (planned (verdict plan))
+abbrev pub sittingVerdict : List ℕ → List ℕ → ℕ → ℕ → ℕ → CallVerdict
+sittingVerdict plan table limit room work = also (also (asked limit room) (workRoom work)) (given plan table)

@@ -5,12 +5,14 @@ ghost use mathlib.Core.Path.{_≡_};
 ghost use Prim.Native.Nat.{_≤_};
 ghost use lib.ListN.{length};
 ghost use Rattle.plan.specs.Plans.{verdict};
-ghost use Rattle.refusals.specs.Refusals.{callNumber, callLink, callReturned, asked, workRoom, also, planned, plannedSecond, placed, figureVerdict, importanceVerdict, sittingVerdict};
+ghost use Rattle.refusals.specs.Refusals.{callNumber, callLink, callReturned, asked, workRoom, tabled, also, planned, plannedSecond, placed, given, figureVerdict, importanceVerdict, sittingVerdict};
 
 // Why a call is refused: its own causes, or that of plan A or of plan B.
 pub enum CallCause {
     Limit,
     Buffer,
+    TableSize,
+    TableValues,
     Place,
     SavedWork,
     OpenSplit,
@@ -30,6 +32,8 @@ fn call_number(c: CallCause) -> u8
     match c {
         CallCause::Limit => 7,
         CallCause::Buffer => 9,
+        CallCause::TableSize => 12,
+        CallCause::TableValues => 13,
         CallCause::Place => 8,
         CallCause::SavedWork => 10,
         CallCause::OpenSplit => 11,
@@ -45,6 +49,8 @@ fn call_link(c: CallCause) -> u16
     match c {
         CallCause::Limit => 0,
         CallCause::Buffer => 0,
+        CallCause::TableSize => 0,
+        CallCause::TableValues => 0,
         CallCause::Place => 0,
         CallCause::SavedWork => 0,
         CallCause::OpenSplit => 0,
@@ -113,6 +119,30 @@ pub fn second_verdict(plan: &[u8]) -> CallVerdict
     }
 }
 
+// Causes 12 and 13.
+fn table_verdict(table: &[u8]) -> CallVerdict
+    ensures { λ r. ⌜ r ≡ tabled (now (table .entry)) ⌝ }
+{
+    if !tables::is_sized(table) {
+        return CallVerdict::Refused(CallCause::TableSize);
+    }
+    if tables::is_well_rated(table) {
+        CallVerdict::Accepted
+    } else {
+        CallVerdict::Refused(CallCause::TableValues)
+    }
+}
+
+// And then those of plan A.
+fn given_verdict(plan: &[u8], table: &[u8]) -> CallVerdict
+    ensures { λ r. ⌜ r ≡ given (now (plan .entry)) (now (table .entry)) ⌝ }
+{
+    match table_verdict(table) {
+        CallVerdict::Accepted => plan_verdict(plan),
+        CallVerdict::Refused(c) => CallVerdict::Refused(c),
+    }
+}
+
 // Cause 8.
 fn place_verdict(plan: &[u8], place: u64) -> CallVerdict
     requires { ⌜ 4 ≤ length (now plan) ⌝ }
@@ -126,30 +156,42 @@ fn place_verdict(plan: &[u8], place: u64) -> CallVerdict
     }
 }
 
-pub fn figure_verdict(plan: &[u8], limit: u64, room: usize) -> CallVerdict
-    ensures { λ r. ⌜ r ≡ figureVerdict (now (plan .entry)) limit room ⌝ }
+pub fn figure_verdict(plan: &[u8], table: &[u8], limit: u64, room: usize) -> CallVerdict
+    ensures { λ r. ⌜ r ≡ figureVerdict (now (plan .entry)) (now (table .entry)) limit room ⌝ }
 {
     match asked_verdict(limit, room) {
-        CallVerdict::Accepted => plan_verdict(plan),
+        CallVerdict::Accepted => given_verdict(plan, table),
         CallVerdict::Refused(c) => CallVerdict::Refused(c),
     }
 }
 
-pub fn importance_verdict(plan: &[u8], place: u64, limit: u64, room: usize) -> CallVerdict
-    ensures { λ r. ⌜ r ≡ importanceVerdict (now (plan .entry)) place limit room ⌝ }
+pub fn importance_verdict(
+    plan: &[u8],
+    table: &[u8],
+    place: u64,
+    limit: u64,
+    room: usize,
+) -> CallVerdict
+    ensures { λ r. ⌜ r ≡ importanceVerdict (now (plan .entry)) (now (table .entry)) place limit room ⌝ }
 {
-    match figure_verdict(plan, limit, room) {
+    match figure_verdict(plan, table, limit, room) {
         CallVerdict::Accepted => place_verdict(plan, place),
         CallVerdict::Refused(c) => CallVerdict::Refused(c),
     }
 }
 
 // What stands before causes 10 and 11.
-pub fn sitting_verdict(plan: &[u8], limit: u64, room: usize, work: usize) -> CallVerdict
-    ensures { λ r. ⌜ r ≡ sittingVerdict (now (plan .entry)) limit room work ⌝ }
+pub fn sitting_verdict(
+    plan: &[u8],
+    table: &[u8],
+    limit: u64,
+    room: usize,
+    work: usize,
+) -> CallVerdict
+    ensures { λ r. ⌜ r ≡ sittingVerdict (now (plan .entry)) (now (table .entry)) limit room work ⌝ }
 {
     match sitting_asked(limit, room, work) {
-        CallVerdict::Accepted => plan_verdict(plan),
+        CallVerdict::Accepted => given_verdict(plan, table),
         CallVerdict::Refused(c) => CallVerdict::Refused(c),
     }
 }
