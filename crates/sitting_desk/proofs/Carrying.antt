@@ -10,6 +10,9 @@ use Rattle.reliability.specs.declared.Figure.{Figure}
 use Rattle.reliability.specs.Networks.{Network}
 use Rattle.reliability.specs.Rule.{Tree, tree, run, more}
 use Rattle.reliability.proofs.Runs.{steps}
+use Rattle.ratings.specs.Ratings.{AtMostS}
+use Rattle.tables.specs.Tables.{rating}
+use Rattle.tables.proofs.Theorems.{rating-range}
 use Rattle.plan.specs.Plans.{WellFormed, planOf}
 use Rattle.plan.proofs.Verdicts.{accepted-means}
 use Rattle.plan.proofs.Accepted.{plan-valid, plan-links}
@@ -25,12 +28,14 @@ use Rattle.saved_verdict.proofs.Laws.{saved-means}
 use Rattle.sitting_desk.specs.Carrying.{Resumable, InRow, workOf, Resumed, bytesOf}
 
 -- a plan's work is at most 64 splits deep
-pub plan-deep : (plan : List ℕ) → WellFormed plan → Deep 64 (tree (planOf plan))
-plan-deep plan w = deeper (length (planOf plan .links)) 64 (tree (planOf plan)) (omega (arith, plan-links plan, w .links)) (tree-deep (planOf plan) (plan-valid plan (accepted-means plan .1 w)))
+pub plan-deep : (plan : List ℕ) (rating : ℕ → ℕ) → AtMostS rating → WellFormed plan → Deep 64 (tree (planOf rating plan))
+plan-deep plan rating most w =
+    let g = planOf rating plan in
+    deeper (length (g .links)) 64 (tree g) (omega (arith, plan-links rating plan, w .links)) (tree-deep g (plan-valid rating plan most (accepted-means plan .1 w)))
 
-module _ (plan saved : List ℕ) (h : Resumable plan saved) where
+module _ (plan table saved : List ℕ) (h : Resumable plan table saved) where
   abbrev t : Tree
-  t = tree (planOf plan)
+  t = tree (planOf (rating table) plan)
 
   passes : (wellFormed saved ≡ true) × (traced t (opensOf saved) ≡ true)
   passes = saved-means t saved .0 (h .accepted)
@@ -45,7 +50,7 @@ module _ (plan saved : List ℕ) (h : Resumable plan saved) where
   work = begun-means saved (passes .0) (h .begun)
 
   module _ (row : List ℕ) (r : InRow saved row) where
-    pub carries : (g : Network) (c : ℕ) → g ≡ planOf plan → c ≡ countIn saved → Carries (tree g) row 0 c
+    pub carries : (g : Network) (c : ℕ) → g ≡ planOf (rating table) plan → c ≡ countIn saved → Carries (tree g) row 0 c
     carries g c e k =
         let same : opensIn row 0 c ≡ opensOf saved = ap (opensIn row 0) k ∙ r .same in
         record {
@@ -54,11 +59,11 @@ module _ (plan saved : List ℕ) (h : Resumable plan saved) where
           range = subst (Known InRange) (sym same) (work .range);
         }
 
-    pub same-work : (g : Network) (c : ℕ) → g ≡ planOf plan → c ≡ countIn saved → resumed (tree g) (opensIn row 0 c) ≡ workOf plan saved
+    pub same-work : (g : Network) (c : ℕ) → g ≡ planOf (rating table) plan → c ≡ countIn saved → resumed (tree g) (opensIn row 0 c) ≡ workOf plan table saved
     same-work g c e k = ap₂ (λ (g : Network) os. resumed (tree g) os) e (ap (opensIn row 0) k ∙ r .same)
 
-  pub few-aside : (l : ℕ) → length (aside (workOf plan saved) l) ≤ 64
-  few-aside l = aside-few 64 t (plan-deep plan (accepted-means plan .0 (h .planned))) (opensOf saved) l
+  pub few-aside : (l : ℕ) → length (aside (workOf plan table saved) l) ≤ 64
+  few-aside l = aside-few 64 t (plan-deep plan (rating table) (rating-range table (h .tabled)) (accepted-means plan .0 (h .planned))) (opensOf saved) l
 
 -- what the engine leaves, in this sitting's words
 pub resumed-of : (t u : Tree) (l limit n k : ℕ) (row after : List ℕ) (r s : Carried) → t ≡ u → l ≡ limit → n ≡ k → Worked t l row 0 r after

@@ -9,6 +9,8 @@ use lib.ListN.{length, take, drop, getD, List·getD-append}
 use lib.Seq.{take-at}
 use Rattle.reliability.specs.Networks.{Network, Valid}
 use Rattle.reliability.specs.Rule.{Tree, tree}
+use Rattle.tables.specs.Tables.{rating, AcceptedTable}
+use Rattle.tables.proofs.Theorems.{rating-range}
 use Rattle.plan.specs.Plans.{WellFormed, planOf}
 use Rattle.plan.proofs.Verdicts.{accepted-means}
 use Rattle.plan.proofs.Accepted.{plan-valid, plan-links}
@@ -48,27 +50,27 @@ complete-span b e h = h ∙ ap (λ s. cond (eqb s 1) 24 (8 + 12 * countIn b)) (s
 
 -- ---- one sitting
 
-module _ (plan : List ℕ) (well : WellFormed plan) where
+module _ (plan table : List ℕ) (fine : AcceptedTable table) (well : WellFormed plan) where
   abbrev g : Network
-  g = planOf plan
+  g = planOf (rating table) plan
 
   abbrev t : Tree
   t = tree g
 
   valid : Valid g
-  valid = plan-valid plan (accepted-means plan .1 well)
+  valid = plan-valid (rating table) plan (rating-range table fine) (accepted-means plan .1 well)
 
   few-links : length (g .links) ≤ 64
-  few-links = omega (arith, plan-links plan, well .links)
+  few-links = omega (arith, plan-links (rating table) plan, well .links)
 
   -- saved work that fits the plan, in its bytes
-  pub kept : (s : Saved) → Fits g s → Keeps plan (savedBytes s)
+  pub kept : (s : Saved) → Fits g s → Keeps plan table (savedBytes s)
   kept (begun os n) f =
       let few : length os ≤ 64 = omega (arith, f .few, few-links) in
       let fit = places-fit g valid few-links os (f .traces) in
       let formed = begun-formed os n few fit (f .in-order) (f .in-range) (f .within) in
       record {
-        size = omega (arith, begun-size os n, f .few, plan-links plan);
+        size = omega (arith, begun-size os n, f .few, plan-links (rating table) plan);
         enough = omega (arith, begun-size os n);
         again = saved-means t (savedBytes (begun os n)) .1 (formed, ap (traced t) (begun-opens os n few fit (f .in-order) (f .in-range)) ∙ f .traces);
       }
@@ -87,20 +89,20 @@ module _ (plan : List ℕ) (well : WellFormed plan) where
       let b = savedBytes (complete f) in
       handed-over b w (omega (arith, complete-size f)) (complete-span b (complete-state f) (complete-size f))
 
-  accept : (saved : List ℕ) → Keeps plan saved → (x : Lent) → Allowed x → verdictOf plan (x .limit) saved (length (x .answer)) (length (x .work)) ≡ Accepted
+  accept : (saved : List ℕ) → Keeps plan table saved → (x : Lent) → Allowed x → verdictOf plan table (x .limit) saved (length (x .answer)) (length (x .work)) ≡ Accepted
   accept saved k x a =
-      call-accepted plan (x .limit) saved (length (x .answer)) (length (x .work)) (record { limited = a .limit; answer = a .room; work = a .space; well = well; saves = k .again })
+      call-accepted plan table (x .limit) saved (length (x .answer)) (length (x .work)) (record { limited = a .limit; answer = a .room; work = a .space; tabled = fine; well = well; saves = k .again })
 
   -- a sitting that is handed it is the sitting of its definition
-  pub one : (s : Saved) → Fits g s → (x : Lent) → Allowed x → sat plan (savedBytes s) x ≡ carriedOn (sitting t s (x .limit)) (x .answer) (x .work)
+  pub one : (s : Saved) → Fits g s → (x : Lent) → Allowed x → sat plan table (savedBytes s) x ≡ carriedOn (sitting t s (x .limit)) (x .answer) (x .work)
   unfolding sitting
   one (begun os n) f x a =
       let few : length os ≤ 64 = omega (arith, f .few, few-links) in
       let opens = begun-opens os n few (places-fit g valid few-links os (f .traces)) (f .in-order) (f .in-range) in
-      carried plan (x .limit) (savedBytes (begun os n)) (x .answer) (x .work) (accept (savedBytes (begun os n)) (kept (begun os n) f) x a) (ap (λ s. eqb s 1) (begun-state os n))
+      carried plan table (x .limit) (savedBytes (begun os n)) (x .answer) (x .work) (accept (savedBytes (begun os n)) (kept (begun os n) f) x a) (ap (λ s. eqb s 1) (begun-state os n))
       ∙ ap₂ (λ os n. carriedOn (sitting t (begun os n) (x .limit)) (x .answer) (x .work)) opens (begun-taken os n (omega (arith, f .within)))
   one (complete f) c x a =
-      completed plan (x .limit) (savedBytes (complete f)) (x .answer) (x .work) (accept (savedBytes (complete f)) (kept (complete f) c) x a) (ap (λ s. eqb s 1) (complete-state f))
+      completed plan table (x .limit) (savedBytes (complete f)) (x .answer) (x .work) (accept (savedBytes (complete f)) (kept (complete f) c) x a) (ap (λ s. eqb s 1) (complete-state f))
       ∙ ap (λ b. record { returned = 0; answer = b ++ drop 16 (x .answer); work = over (savedBytes (complete f)) (x .work) }) (complete-answer f)
 
   -- ---- several sittings
@@ -118,12 +120,12 @@ module _ (plan : List ℕ) (well : WellFormed plan) where
   fits = good-fits g valid
 
   -- what a sitting hands on
-  pub hands : (s : Saved) → GoodSaved g s → (x : Lent) → Allowed x → handed (sat plan (savedBytes s) x .work) ≡ savedBytes (sitting t s (x .limit) .saved)
+  pub hands : (s : Saved) → GoodSaved g s → (x : Lent) → Allowed x → handed (sat plan table (savedBytes s) x .work) ≡ savedBytes (sitting t s (x .limit) .saved)
   hands s r x a =
       ap (λ (o : SittingOutcome). handed (o .work)) (one s (fits s r) x a)
       ∙ handed-again (sitting t s (x .limit) .saved) (fits (sitting t s (x .limit) .saved) (good-on s r (x .limit))) (x .work)
 
-  pub hands-on : (s : Saved) → GoodSaved g s → (xs : List Lent) → AllAllowed xs → handedOn plan (savedBytes s) xs ≡ savedBytes (savedAfter t s (limits xs))
+  pub hands-on : (s : Saved) → GoodSaved g s → (xs : List Lent) → AllAllowed xs → handedOn plan table (savedBytes s) xs ≡ savedBytes (savedAfter t s (limits xs))
   unfolding handedOn savedAfter
   hands-on s r [] a = refl
-  hands-on s r (x ∷ xs) a = ap (λ b. handedOn plan b xs) (hands s r x (a .0)) ∙ hands-on (sitting t s (x .limit) .saved) (good-on s r (x .limit)) xs (a .1)
+  hands-on s r (x ∷ xs) a = ap (λ b. handedOn plan table b xs) (hands s r x (a .0)) ∙ hands-on (sitting t s (x .limit) .saved) (good-on s r (x .limit)) xs (a .1)

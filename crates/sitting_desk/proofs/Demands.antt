@@ -13,6 +13,8 @@ use Rattle.reliability.specs.declared.Figure.{Figure}
 use Rattle.reliability.specs.Networks.{Network, Valid}
 use Rattle.reliability.specs.Exact.{altogether}
 use Rattle.reliability.specs.Rule.{figure, Tree, treeBy, tree, run, more}
+use Rattle.tables.specs.Tables.{rating, AcceptedTable}
+use Rattle.tables.proofs.Theorems.{rating-range}
 use Rattle.plan.specs.Plans.{WellFormed, planOf}
 use Rattle.plan.proofs.Verdicts.{accepted-means}
 use Rattle.plan.proofs.Accepted.{plan-valid}
@@ -77,12 +79,12 @@ saved-span t deep os n limit = go (run u l .finished)
         let few : length (opens u l) ≤ 64 = opens-few 64 u (resumed-deep 64 t deep os) l in
         (omega arith, omega arith, begun-span (savedBytes (begun (opens u l) (f .steps))) (begun-state (opens u l) (f .steps)) (omega (arith, begun-count (opens u l) (f .steps) few)))
 
-module _ (plan : List ℕ) (limit : ℕ) (saved answer work : List ℕ) where
+module _ (plan table : List ℕ) (limit : ℕ) (saved answer work : List ℕ) where
   abbrev v : CallVerdict
-  v = verdictOf plan limit saved (length answer) (length work)
+  v = verdictOf plan table limit saved (length answer) (length work)
 
   abbrev o : SittingOutcome
-  o = sittingOutcome plan limit saved answer work
+  o = sittingOutcome plan table limit saved answer work
 
   -- each sitting fills the answer and writes saved work to a lent buffer; bytes behind it stay, on a refusal all:
   -- for every input whatever
@@ -91,43 +93,43 @@ module _ (plan : List ℕ) (limit : ℕ) (saved answer work : List ℕ) where
     where
       by-state : (c : Bool) → v ≡ Accepted → eqb (stateIn saved) 1 ≡ c → Full o answer work
       by-state true e s =
-          let h = accepted-call plan limit saved (length answer) (length work) e in
+          let h = accepted-call plan table limit saved (length answer) (length work) e in
           let one = eqb-true (stateIn saved) 1 s in
-          let w = complete-means saved (saved-means (tree (planOf plan)) saved .0 (h .saves) .0) (λ z. omega arith) in
-          full (take 16 (drop 8 saved)) saved answer work o (completed plan limit saved answer work e s)
+          let w = complete-means saved (saved-means (tree (planOf (rating table) plan)) saved .0 (h .saves) .0) (λ z. omega arith) in
+          full (take 16 (drop 8 saved)) saved answer work o (completed plan table limit saved answer work e s)
           (length-take-le 16 (drop 8 saved) (omega (arith, length-drop 8 saved, w .size))) (h .answer) (h .work) (omega (arith, w .size)) (omega (arith, w .size)) (complete-span saved one (w .size))
       by-state false e s =
-          let h = accepted-call plan limit saved (length answer) (length work) e in
-          let (few, some, spans) = saved-span (tree (planOf plan)) (plan-deep plan (h .well)) (opensOf saved) (takenIn saved) limit in
-          full (answerBytes (sittingOf plan limit saved .answer)) (savedBytes (sittingOf plan limit saved .saved)) answer work o (carried plan limit saved answer work e s)
+          let h = accepted-call plan table limit saved (length answer) (length work) e in
+          let (few, some, spans) = saved-span (tree (planOf (rating table) plan)) (plan-deep plan (rating table) (rating-range table (h .tabled)) (h .well)) (opensOf saved) (takenIn saved) limit in
+          full (answerBytes (sittingOf plan table limit saved .answer)) (savedBytes (sittingOf plan table limit saved .saved)) answer work o (carried plan table limit saved answer work e s)
           refl (h .answer) (h .work) few some spans
 
       by-verdict : (u : CallVerdict) → v ≡ u → Full o answer work ⊎ Refusal o answer work
       by-verdict Accepted e = inl (by-state (eqb (stateIn saved) 1) e refl)
       by-verdict (Refused c) e =
-          let same = refused plan limit saved answer work c e in
+          let same = refused plan table limit saved answer work c e in
           inr (subst (λ o. Refusal o answer work) (sym same) (record { numbered = omega (arith, call-number-range c); answered = refl; worked = refl }))
 
-  -- the number returned is that of the first cause in the order 7, 9, 1 to 6, 10, 11; 0 if there is none
+  -- the number returned is that of the first cause in the order 7, 9, 12, 13, 1 to 6, 10, 11; 0 if there is none
   pub sitting-returned : o .returned ≡ callReturned v
   sitting-returned = by-verdict v refl
     where
       by-state : (c : Bool) → v ≡ Accepted → eqb (stateIn saved) 1 ≡ c → o .returned ≡ 0
-      by-state true e s = ap (λ (o : SittingOutcome). o .returned) (completed plan limit saved answer work e s)
-      by-state false e s = ap (λ (o : SittingOutcome). o .returned) (carried plan limit saved answer work e s)
+      by-state true e s = ap (λ (o : SittingOutcome). o .returned) (completed plan table limit saved answer work e s)
+      by-state false e s = ap (λ (o : SittingOutcome). o .returned) (carried plan table limit saved answer work e s)
 
       by-verdict : (u : CallVerdict) → v ≡ u → o .returned ≡ callReturned v
       by-verdict Accepted e = by-state (eqb (stateIn saved) 1) e refl ∙ ap callReturned (sym e)
-      by-verdict (Refused c) e = ap (λ (o : SittingOutcome). o .returned) (refused plan limit saved answer work c e) ∙ ap callReturned (sym e)
+      by-verdict (Refused c) e = ap (λ (o : SittingOutcome). o .returned) (refused plan table limit saved answer work c e) ∙ ap callReturned (sym e)
 
   accepted : o .returned ≡ 0 → v ≡ Accepted
   accepted zero = zero-accepted v (sym sitting-returned ∙ zero)
 
   -- a call that meets none of its rows is accepted, and no other
-  pub sitting-accepted : o .returned ≡ 0 ↔ AcceptedCall plan limit saved (length answer) (length work)
+  pub sitting-accepted : o .returned ≡ 0 ↔ AcceptedCall plan table limit saved (length answer) (length work)
   sitting-accepted = (
-    λ zero. accepted-call plan limit saved (length answer) (length work) (accepted zero),
-    λ h. sitting-returned ∙ ap callReturned (call-accepted plan limit saved (length answer) (length work) h),
+    λ zero. accepted-call plan table limit saved (length answer) (length work) (accepted zero),
+    λ h. sitting-returned ∙ ap callReturned (call-accepted plan table limit saved (length answer) (length work) h),
   )
 
   -- ---- the steps in the answer
@@ -135,21 +137,21 @@ module _ (plan : List ℕ) (limit : ℕ) (saved answer work : List ℕ) where
   -- of begun work
   module _ (zero : o .returned ≡ 0) (first : stateIn saved ≡ 0) where
     steps-so-far : takenIn saved ≤ most
-    steps-so-far = begun-means saved (saved-means (tree (planOf plan)) saved .0 (sitting-accepted .0 zero .saves) .0) first .steps
+    steps-so-far = begun-means saved (saved-means (tree (planOf (rating table) plan)) saved .0 (sitting-accepted .0 zero .saves) .0) first .steps
 
-    steps-are : stepsIn (o .answer) ≡ sittingOf plan limit saved .answer .steps
+    steps-are : stepsIn (o .answer) ≡ sittingOf plan table limit saved .answer .steps
     steps-are =
-        let s = sittingOf plan limit saved in
-        ap (λ (o : SittingOutcome). stepsIn (o .answer)) (carried plan limit saved answer work (accepted zero) (ap (λ n. eqb n 1) first))
-        ∙ steps-written (s .answer) answer (omega (arith, at-most (tree (planOf plan)) (opensOf saved) (takenIn saved) limit steps-so-far))
+        let s = sittingOf plan table limit saved in
+        ap (λ (o : SittingOutcome). stepsIn (o .answer)) (carried plan table limit saved answer work (accepted zero) (ap (λ n. eqb n 1) first))
+        ∙ steps-written (s .answer) answer (omega (arith, at-most (tree (planOf (rating table) plan)) (opensOf saved) (takenIn saved) limit steps-so-far))
 
     -- or 1,000,000 if that is less; no sitting goes past it
     pub never-past-a-million : stepsIn (o .answer) ≤ 1000000
-    never-past-a-million = omega (arith, steps-are, at-most (tree (planOf plan)) (opensOf saved) (takenIn saved) limit steps-so-far)
+    never-past-a-million = omega (arith, steps-are, at-most (tree (planOf (rating table) plan)) (opensOf saved) (takenIn saved) limit steps-so-far)
 
     -- and none takes more steps than its limit
     pub within-its-limit : stepsIn (o .answer) ≤ takenIn saved + limit
-    within-its-limit = omega (arith, steps-are, at-most (tree (planOf plan)) (opensOf saved) (takenIn saved) limit steps-so-far)
+    within-its-limit = omega (arith, steps-are, at-most (tree (planOf (rating table) plan)) (opensOf saved) (takenIn saved) limit steps-so-far)
 
 -- a sitting that saves complete work answers with its figure
 complete-answers : (t : Tree) (s : Saved) (l : ℕ) (f : Figure) → sitting t s l .saved ≡ complete f → sitting t s l .answer ≡ f
@@ -169,27 +171,27 @@ complete-answers t (begun os n) l f e = go (run (resumed t os) k .finished) e
 
 -- ---- sittings of an accepted plan, after earlier ones
 
-module _ (plan : List ℕ) (well : WellFormed plan) where
+module _ (plan table : List ℕ) (fine : AcceptedTable table) (well : WellFormed plan) where
   abbrev g : Network
-  g = planOf plan
+  g = planOf (rating table) plan
 
   valid : Valid g
-  valid = plan-valid plan (accepted-means plan .1 well)
+  valid = plan-valid (rating table) plan (rating-range table fine) (accepted-means plan .1 well)
 
-  pub good : (s : Saved) → Earlier plan s → GoodSaved g s
+  pub good : (s : Saved) → Earlier plan table s → GoodSaved g s
   good s e = subst (GoodSaved g) (sym (e .same)) (saved-good g valid (e .sittings))
 
   -- nothing
-  pub first : Earlier plan nothing
+  pub first : Earlier plan table nothing
   unfolding savedBy
   first = record { sittings = []; same = refl }
 
   -- they are accepted, by the checks 10 and 11 too, and a sitting that is handed them is the sitting of its definition
-  pub earlier-accepted : (s : Saved) → Earlier plan s → Keeps plan (savedBytes s)
-  earlier-accepted s e = kept plan well s (fits plan well s (good s e))
+  pub earlier-accepted : (s : Saved) → Earlier plan table s → Keeps plan table (savedBytes s)
+  earlier-accepted s e = kept plan table fine well s (fits plan table fine well s (good s e))
 
-  pub earlier-carried : (s : Saved) → Earlier plan s → (x : Lent) → Allowed x → sat plan (savedBytes s) x ≡ carriedOn (sitting (tree g) s (x .limit)) (x .answer) (x .work)
-  earlier-carried s e = one plan well s (fits plan well s (good s e))
+  pub earlier-carried : (s : Saved) → Earlier plan table s → (x : Lent) → Allowed x → sat plan table (savedBytes s) x ≡ carriedOn (sitting (tree g) s (x .limit)) (x .answer) (x .work)
+  earlier-carried s e = one plan table fine well s (fits plan table fine well s (good s e))
 
   -- what it hands on came from earlier sittings again
   one-more : (s : Saved) (xs : List (Choosing × ℕ)) (x : Choosing × ℕ) → savedBy g s (xs ++ (x ∷ [])) ≡ sitting (treeBy (choiceOf (x .0)) g) (savedBy g s xs) (x .1) .saved
@@ -197,40 +199,40 @@ module _ (plan : List ℕ) (well : WellFormed plan) where
   one-more s [] x = refl
   one-more s (y ∷ xs) x = one-more (sitting (treeBy (choiceOf (y .0)) g) s (y .1) .saved) xs x
 
-  pub earlier-on : (s : Saved) → Earlier plan s → (x : Lent) → Allowed x
-      → let r = sitting (tree g) s (x .limit) .saved in Earlier plan r × (handed (sat plan (savedBytes s) x .work) ≡ savedBytes r)
+  pub earlier-on : (s : Saved) → Earlier plan table s → (x : Lent) → Allowed x
+      → let r = sitting (tree g) s (x .limit) .saved in Earlier plan table r × (handed (sat plan table (savedBytes s) x .work) ≡ savedBytes r)
   earlier-on s e x a = (
     record {
       sittings = e .sittings ++ ((byLargestSum, x .limit) ∷ []);
       same = ap (λ r. sitting (tree g) r (x .limit) .saved) (e .same) ∙ sym (one-more nothing (e .sittings) (byLargestSum, x .limit));
     },
-    hands plan well s (good s e) x a,
+    hands plan table fine well s (good s e) x a,
   )
 
   -- ---- several sittings from the same saved work, and one more
 
-  module _ (s : Saved) (e : Earlier plan s) (xs : List Lent) (before : AllAllowed xs) (x : Lent) (a : Allowed x) where
+  module _ (s : Saved) (e : Earlier plan table s) (xs : List Lent) (before : AllAllowed xs) (x : Lent) (a : Allowed x) where
     abbrev saved : Saved
     saved = savedAfter (tree g) s (limits xs)
 
     abbrev last : SittingOutcome
-    last = sat plan (handedOn plan (savedBytes s) xs) x
+    last = sat plan table (handedOn plan table (savedBytes s) xs) x
 
     -- their total, or 1,000,000 if that is less
     abbrev total : ℕ
     total = min (altogether (limits xs) + x .limit) 1000000
 
     good-saved : GoodSaved g saved
-    good-saved = good-after plan well s (good s e) (limits xs)
+    good-saved = good-after plan table fine well s (good s e) (limits xs)
 
     last-is : last ≡ carriedOn (sitting (tree g) saved (x .limit)) (x .answer) (x .work)
-    last-is = ap (λ b. sat plan b x) (hands-on plan well s (good s e) xs before) ∙ one plan well saved (fits plan well saved good-saved) x a
+    last-is = ap (λ b. sat plan table b x) (hands-on plan table fine well s (good s e) xs before) ∙ one plan table fine well saved (fits plan table fine well saved good-saved) x a
 
     last-hands : handed (last .work) ≡ savedBytes (sitting (tree g) saved (x .limit) .saved)
-    last-hands = ap (λ b. handed (sat plan b x .work)) (hands-on plan well s (good s e) xs before) ∙ hands plan well saved good-saved x a
+    last-hands = ap (λ b. handed (sat plan table b x .work)) (hands-on plan table fine well s (good s e) xs before) ∙ hands plan table fine well saved good-saved x a
 
     -- they add up: both buffers are as one sitting whose limit is their total, or 1,000,000 if that is less, leaves them
-    pub sittings-add-up : (last .returned ≡ 0) × (last ≡ sat plan (savedBytes s) (record { limit = total; answer = x .answer; work = x .work }))
+    pub sittings-add-up : (last .returned ≡ 0) × (last ≡ sat plan table (savedBytes s) (record { limit = total; answer = x .answer; work = x .work }))
     sittings-add-up =
         let once : Lent = record { limit = total; answer = x .answer; work = x .work } in
         let h : Allowed once = record { limit = omega arith; room = a .room; space = a .space } in
@@ -240,42 +242,42 @@ module _ (plan : List ℕ) (well : WellFormed plan) where
         )
 
     -- saved work fits: 776 bytes are enough, and it is accepted again by the same plan
-    pub saved-work-fits : Keeps plan (handed (last .work))
+    pub saved-work-fits : Keeps plan table (handed (last .work))
     saved-work-fits =
         let r = sitting (tree g) saved (x .limit) .saved in
-        subst (Keeps plan) (sym last-hands) (kept plan well r (fits plan well r (good-on plan well saved good-saved (x .limit))))
+        subst (Keeps plan table) (sym last-hands) (kept plan table fine well r (fits plan table fine well r (good-on plan table fine well saved good-saved (x .limit))))
 
     -- a complete one is followed by the answer's 16 bytes: under any limit it gives its answer and its bytes again
     pub complete-again : stateIn (handed (last .work)) ≡ 1 → (y : Lent) → Allowed y
-        → sat plan (handed (last .work)) y ≡ record { returned = 0; answer = take 16 (last .answer) ++ drop 16 (y .answer); work = over (handed (last .work)) (y .work) }
+        → sat plan table (handed (last .work)) y ≡ record { returned = 0; answer = take 16 (last .answer) ++ drop 16 (y .answer); work = over (handed (last .work)) (y .work) }
     unfolding sitting
     complete-again one-more y b = go next refl
       where
         next : Saved
         next = sitting (tree g) saved (x .limit) .saved
 
-        go : (s : Saved) → next ≡ s → sat plan (handed (last .work)) y ≡ record { returned = 0; answer = take 16 (last .answer) ++ drop 16 (y .answer); work = over (handed (last .work)) (y .work) }
+        go : (s : Saved) → next ≡ s → sat plan table (handed (last .work)) y ≡ record { returned = 0; answer = take 16 (last .answer) ++ drop 16 (y .answer); work = over (handed (last .work)) (y .work) }
         go (begun os n) p = let z : stateIn (handed (last .work)) ≡ 0 = ap stateIn (last-hands ∙ ap savedBytes p) ∙ begun-state os n in absurd (omega arith)
         go (complete f) p =
             let bytes : handed (last .work) ≡ savedBytes (complete f) = last-hands ∙ ap savedBytes p in
-            let fit = fits plan well (complete f) (subst (GoodSaved g) p (good-on plan well saved good-saved (x .limit))) in
+            let fit = fits plan table fine well (complete f) (subst (GoodSaved g) p (good-on plan table fine well saved good-saved (x .limit))) in
             let answer : take 16 (last .answer) ≡ answerBytes f = ap (λ (o : SittingOutcome). take 16 (o .answer)) last-is ∙ ap answerBytes (complete-answers (tree g) saved (x .limit) f p) in
-            ap (λ c. sat plan c y) bytes ∙ one plan well (complete f) fit y b
+            ap (λ c. sat plan table c y) bytes ∙ one plan table fine well (complete f) fit y b
             ∙ ap₂ (λ p c. record { returned = 0; answer = p ++ drop 16 (y .answer); work = over c (y .work) }) (sym answer) (sym bytes)
 
   -- ---- sittings the first of which is handed eight zero bytes
 
   -- a first sitting answers as the figure does under its limit
-  pub first-sitting : (x : Lent) → Allowed x → (sat plan zeros x .returned ≡ 0) × (sat plan zeros x .answer ≡ withFigure (figure g (x .limit)) (x .answer))
+  pub first-sitting : (x : Lent) → Allowed x → (sat plan table zeros x .returned ≡ 0) × (sat plan table zeros x .answer ≡ withFigure (figure g (x .limit)) (x .answer))
   first-sitting x a =
-      let e = ap (λ b. sat plan b x) (sym zeros-nothing) ∙ earlier-carried nothing first x a in (
+      let e = ap (λ b. sat plan table b x) (sym zeros-nothing) ∙ earlier-carried nothing first x a in (
         ap (λ (o : SittingOutcome). o .returned) e,
         ap (λ (o : SittingOutcome). o .answer) e ∙ ap (λ (f : Figure). withFigure f (x .answer)) (first-figure g (x .limit) (a .limit)),
       )
 
   -- a user who works a plan through several sittings gets the figure under their total, or under 1,000,000 if that is less
   pub sittings-figure : (xs : List Lent) → AllAllowed xs → (x : Lent) → Allowed x
-      → sat plan (handedOn plan zeros xs) x .answer ≡ withFigure (figure g (min (altogether (limits xs) + x .limit) 1000000)) (x .answer)
+      → sat plan table (handedOn plan table zeros xs) x .answer ≡ withFigure (figure g (min (altogether (limits xs) + x .limit) 1000000)) (x .answer)
   sittings-figure xs before x a =
-      ap (λ b. sat plan (handedOn plan b xs) x .answer) (sym zeros-nothing) ∙ ap (λ (o : SittingOutcome). o .answer) (last-is nothing first xs before x a)
+      ap (λ b. sat plan table (handedOn plan table b xs) x .answer) (sym zeros-nothing) ∙ ap (λ (o : SittingOutcome). o .answer) (last-is nothing first xs before x a)
       ∙ ap (λ (f : Figure). withFigure f (x .answer)) (total-figure g valid (limits xs) (x .limit))

@@ -7,6 +7,7 @@ use lib.ListN.{length}
 use lib.Seq.{sets}
 use Rattle.reliability.specs.declared.Figure.{Figure}
 use Rattle.reliability.specs.Rule.{Tree, tree, run, more}
+use Rattle.tables.specs.Tables.{rating, AcceptedTable}
 use Rattle.plan.specs.declared.Verdict.the-variants.{Accepted as PlanAccepted}
 use Rattle.plan.specs.Plans.{verdict, planOf}
 use Rattle.refusals.specs.declared.CallVerdict.the-variants.{Accepted}
@@ -16,10 +17,11 @@ use Rattle.sittings.specs.Entries.{entries, opensIn}
 use Rattle.saved.specs.Format.{countIn, stateIn, takenIn, opensOf, savedBytes, begunBytes}
 use Rattle.saved_verdict.specs.SavedVerdict.{savedVerdict}
 
--- begun saved work, accepted for an accepted plan
-pub record Resumable (plan saved : List ℕ) : Type 0 where
+-- begun saved work, accepted for an accepted plan under an accepted table
+pub record Resumable (plan table saved : List ℕ) : Type 0 where
   pub planned : verdict plan ≡ PlanAccepted
-  pub accepted : savedVerdict (tree (planOf plan)) saved ≡ Accepted
+  pub tabled : AcceptedTable table
+  pub accepted : savedVerdict (tree (planOf (rating table) plan)) saved ≡ Accepted
   pub begun : stateIn saved ≡ 0
 
 -- the row has its open splits
@@ -28,8 +30,8 @@ pub record InRow (saved row : List ℕ) : Type 0 where
   pub same : opensIn row 0 (countIn saved) ≡ opensOf saved
 
 -- the plan's work with its open splits taken, and the steps that this sitting may take
-abbrev pub workOf : List ℕ → List ℕ → Tree
-workOf plan saved = resumed (tree (planOf plan)) (opensOf saved)
+abbrev pub workOf : List ℕ → List ℕ → List ℕ → Tree
+workOf plan table saved = resumed (tree (planOf (rating table) plan)) (opensOf saved)
 
 abbrev pub leftOf : ℕ → List ℕ → ℕ
 leftOf limit saved = min limit (most - takenIn saved)

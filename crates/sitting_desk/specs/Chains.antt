@@ -1,10 +1,11 @@
--- Several sittings of a plan, each handed what the one before it wrote.
+-- Several sittings of a plan under one table, each handed what the one before it wrote.
 use Prim.Native.Nat.{ℕ, _+_, _*_, _≤_}
 use mathlib.Core.Path.{_≡_}
 use mathlib.Core.List.{List, [], _∷_}
 use mathlib.Core.Bool.{cond}
 use lib.Dec.{eqb}
 use lib.ListN.{length, take}
+use Rattle.tables.specs.Tables.{rating}
 use Rattle.plan.specs.Plans.{planOf}
 use Rattle.sittings.specs.Sittings.{Saved, nothing, Choosing, savedBy}
 use Rattle.saved.specs.Format.{countIn, stateIn}
@@ -30,19 +31,19 @@ AllAllowed (x ∷ xs) = Allowed x × AllAllowed xs
 unfoldable pub handed : List ℕ → List ℕ
 handed work = take (cond (eqb (stateIn work) 1) 24 (8 + 12 * countIn work)) work
 
-abbrev pub sat : List ℕ → List ℕ → Lent → SittingOutcome
-sat plan saved x = sittingOutcome plan (x .limit) saved (x .answer) (x .work)
+abbrev pub sat : List ℕ → List ℕ → List ℕ → Lent → SittingOutcome
+sat plan table saved x = sittingOutcome plan table (x .limit) saved (x .answer) (x .work)
 
 -- what is handed on after several sittings
-unfoldable pub handedOn : List ℕ → List ℕ → List Lent → List ℕ
-handedOn plan saved [] = saved
-handedOn plan saved (x ∷ xs) = handedOn plan (handed (sat plan saved x .work)) xs
+unfoldable pub handedOn : List ℕ → List ℕ → List ℕ → List Lent → List ℕ
+handedOn plan table saved [] = saved
+handedOn plan table saved (x ∷ xs) = handedOn plan table (handed (sat plan table saved x .work)) xs
 
 abbrev pub limits : List Lent → List ℕ
 limits [] = []
 limits (x ∷ xs) = x .limit ∷ limits xs
 
--- saved work that came from the plan's earlier sittings with its links' values of now, each by document 01's choice of the link to split on or by the rule's
-pub record Earlier (plan : List ℕ) (s : Saved) : Type 0 where
+-- saved work that came from the plan's earlier sittings under this table, with its links' values of now, each by document 01's choice of the link to split on or by the rule's
+pub record Earlier (plan table : List ℕ) (s : Saved) : Type 0 where
   pub sittings : List (Choosing × ℕ)
-  pub same : s ≡ savedBy (planOf plan) nothing sittings
+  pub same : s ≡ savedBy (planOf (rating table) plan) nothing sittings

@@ -4,6 +4,7 @@ use mathlib.Core.Path.{_≡_}
 use mathlib.Core.List.{List}
 use lib.ListN.{length, drop}
 use Rattle.reliability.specs.Rule.{tree}
+use Rattle.tables.specs.Tables.{rating}
 use Rattle.plan.specs.Plans.{sizeM, planOf}
 use Rattle.refusals.specs.declared.CallVerdict.the-variants.{Accepted}
 use Rattle.saved.specs.Format.{over}
@@ -27,8 +28,8 @@ pub record Refusal (o : SittingOutcome) (answer work : List ℕ) : Type 0 where
   pub answered : o .answer ≡ answer
   pub worked : o .work ≡ work
 
--- saved work that fits: at most 12 bytes for each link behind the sizes, or 24 where complete, and accepted again by the same plan
-pub record Keeps (plan saved : List ℕ) : Type 0 where
+-- saved work that fits: at most 12 bytes for each link behind the sizes, or 24 where complete, and accepted again by the same plan under the same table
+pub record Keeps (plan table saved : List ℕ) : Type 0 where
   pub size : length saved ≤ max 24 (8 + 12 * sizeM plan)
   pub enough : length saved ≤ 776
-  pub again : savedVerdict (tree (planOf plan)) saved ≡ Accepted
+  pub again : savedVerdict (tree (planOf (rating table) plan)) saved ≡ Accepted

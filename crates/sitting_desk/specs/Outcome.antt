@@ -5,6 +5,7 @@ use mathlib.Core.Bool.{cond}
 use lib.Dec.{eqb}
 use lib.ListN.{length, take, drop}
 use Rattle.reliability.specs.Rule.{tree}
+use Rattle.tables.specs.Tables.{rating}
 use Rattle.plan.specs.Plans.{planOf}
 use Rattle.refusals.specs.declared.CallVerdict.{CallVerdict}
 use Rattle.refusals.specs.declared.CallVerdict.the-variants.{Accepted, Refused}
@@ -34,18 +35,19 @@ unlessRefused Accepted answer work o = o
 unlessRefused (Refused c) answer work o = record { returned = callReturned (Refused c); answer = answer; work = work }
 
 -- 10 then 11 after the plan's own refusals
-abbrev pub verdictOf : List ℕ → ℕ → List ℕ → ℕ → ℕ → CallVerdict
-verdictOf plan limit saved room space = also (sittingVerdict plan limit room space) (savedVerdict (tree (planOf plan)) saved)
+abbrev pub verdictOf : List ℕ → List ℕ → ℕ → List ℕ → ℕ → ℕ → CallVerdict
+verdictOf plan table limit saved room space = also (sittingVerdict plan table limit room space) (savedVerdict (tree (planOf (rating table) plan)) saved)
 
 -- the sitting of begun work: its open splits and the steps so far
-abbrev pub sittingOf : List ℕ → ℕ → List ℕ → Sitting
-sittingOf plan limit saved = sitting (tree (planOf plan)) (begun (opensOf saved) (takenIn saved)) limit
+abbrev pub sittingOf : List ℕ → List ℕ → ℕ → List ℕ → Sitting
+sittingOf plan table limit saved = sitting (tree (planOf (rating table) plan)) (begun (opensOf saved) (takenIn saved)) limit
 
 -- an accepted sitting, by the state of its saved work
-abbrev pub acceptedOutcome : List ℕ → ℕ → List ℕ → List ℕ → List ℕ → SittingOutcome
-acceptedOutcome plan limit saved answer work =
-    cond (eqb (stateIn saved) 1) (givenAgain saved answer work) (carriedOn (sittingOf plan limit saved) answer work)
+abbrev pub acceptedOutcome : List ℕ → List ℕ → ℕ → List ℕ → List ℕ → List ℕ → SittingOutcome
+acceptedOutcome plan table limit saved answer work =
+    cond (eqb (stateIn saved) 1) (givenAgain saved answer work) (carriedOn (sittingOf plan table limit saved) answer work)
 
-unfoldable pub sittingOutcome : List ℕ → ℕ → List ℕ → List ℕ → List ℕ → SittingOutcome
-sittingOutcome plan limit saved answer work =
-    unlessRefused (verdictOf plan limit saved (length answer) (length work)) answer work (acceptedOutcome plan limit saved answer work)
+-- of a plan, the buyer's table, the limit, the saved work and the two buffers
+unfoldable pub sittingOutcome : List ℕ → List ℕ → ℕ → List ℕ → List ℕ → List ℕ → SittingOutcome
+sittingOutcome plan table limit saved answer work =
+    unlessRefused (verdictOf plan table limit saved (length answer) (length work)) answer work (acceptedOutcome plan table limit saved answer work)

@@ -35,24 +35,24 @@ fn with_earlier(taken: u32, f: Figure) -> Figure
 }
 
 // Every cause of a sitting, in order.
-fn verdict_of(plan: &[u8], limit: u64, saved: &[u8], room: usize, space: usize) -> CallVerdict
-    ensures { λ r. ⌜ r ≡ verdictOf (now (plan .entry)) limit (now (saved .entry)) room space ⌝ }
+fn verdict_of(plan: &[u8], table: &[u8], limit: u64, saved: &[u8], room: usize, space: usize) -> CallVerdict
+    ensures { λ r. ⌜ r ≡ verdictOf (now (plan .entry)) (now (table .entry)) limit (now (saved .entry)) room space ⌝ }
 {
-    match refusals::sitting_verdict(plan, limit, room, space) {
-        CallVerdict::Accepted => saved_verdict::saved_verdict(plan, saved),
+    match refusals::sitting_verdict(plan, table, limit, room, space) {
+        CallVerdict::Accepted => saved_verdict::saved_verdict(plan, table, saved),
         CallVerdict::Refused(c) => CallVerdict::Refused(c),
     }
 }
 
 // The open splits in the row are put back and worked under the limit.
-fn carried(plan: &[u8], limit: u64, saved: &[u8], row: &mut [u32; 192]) -> Carried
-    requires { ⌜ Resumable (now plan) (now saved) × InRow (now saved) (now row) ⌝ }
-    ensures { λ r. ⌜ Resumed (workOf (now (plan .entry)) (now (saved .entry))) (leftOf limit (now (saved .entry))) (takenIn (now (saved .entry))) (now (row .entry)) r (now (row .exit)) ⌝ }
+fn carried(plan: &[u8], table: &[u8], limit: u64, saved: &[u8], row: &mut [u32; 192]) -> Carried
+    requires { ⌜ Resumable (now plan) (now table) (now saved) × InRow (now saved) (now row) ⌝ }
+    ensures { λ r. ⌜ Resumed (workOf (now (plan .entry)) (now (table .entry)) (now (saved .entry))) (leftOf limit (now (saved .entry))) (takenIn (now (saved .entry))) (now (row .entry)) r (now (row .exit)) ⌝ }
 {
     let count = saved::count_of(saved);
     let taken = saved::taken_of(saved);
     let limited = allowance(limit, taken);
-    let r = factoring::carry(loading::network_of(plan), limited, row, count);
+    let r = factoring::carry(loading::network_of(plan, table), limited, row, count);
     let figure = with_earlier(taken, r.figure);
     Carried {
         figure,
@@ -74,25 +74,25 @@ fn set_aside(work: &mut [u8], row: &[u32; 192], r: Carried)
 }
 
 // Begun work is put back, worked and set aside again.
-fn carry_on(plan: &[u8], limit: u64, saved: &[u8], answer: &mut [u8], work: &mut [u8])
-    requires { ⌜ Resumable (now plan) (now saved) × (16 ≤ length (now answer)) × (776 ≤ length (now work)) ⌝ }
-    ensures { λ _. ⌜ now (answer .exit) ≡ withFigure (sittingOf (now (plan .entry)) limit (now (saved .entry)) .answer) (now (answer .entry)) ⌝ }
-    ensures { λ _. ⌜ now (work .exit) ≡ over (savedBytes (sittingOf (now (plan .entry)) limit (now (saved .entry)) .saved)) (now (work .entry)) ⌝ }
+fn carry_on(plan: &[u8], table: &[u8], limit: u64, saved: &[u8], answer: &mut [u8], work: &mut [u8])
+    requires { ⌜ Resumable (now plan) (now table) (now saved) × (16 ≤ length (now answer)) × (776 ≤ length (now work)) ⌝ }
+    ensures { λ _. ⌜ now (answer .exit) ≡ withFigure (sittingOf (now (plan .entry)) (now (table .entry)) limit (now (saved .entry)) .answer) (now (answer .entry)) ⌝ }
+    ensures { λ _. ⌜ now (work .exit) ≡ over (savedBytes (sittingOf (now (plan .entry)) (now (table .entry)) limit (now (saved .entry)) .saved)) (now (work .entry)) ⌝ }
 {
     let mut row = saved::row_of(saved);
-    let r = carried(plan, limit, saved, &mut row);
+    let r = carried(plan, table, limit, saved, &mut row);
     let f = r.figure;
     answers::put_answer(answer, f.low, f.high, f.steps, f.finished);
     set_aside(work, &row, r);
 }
 
 // Complete work is answered from its own bytes and written again.
-pub fn sitting(plan: &[u8], limit: u64, saved: &[u8], answer: &mut [u8], work: &mut [u8]) -> u64
-    ensures { λ r. ⌜ r ≡ sittingOutcome (now (plan .entry)) limit (now (saved .entry)) (now (answer .entry)) (now (work .entry)) .returned ⌝ }
-    ensures { λ _. ⌜ now (answer .exit) ≡ sittingOutcome (now (plan .entry)) limit (now (saved .entry)) (now (answer .entry)) (now (work .entry)) .answer ⌝ }
-    ensures { λ _. ⌜ now (work .exit) ≡ sittingOutcome (now (plan .entry)) limit (now (saved .entry)) (now (answer .entry)) (now (work .entry)) .work ⌝ }
+pub fn sitting(plan: &[u8], table: &[u8], limit: u64, saved: &[u8], answer: &mut [u8], work: &mut [u8]) -> u64
+    ensures { λ r. ⌜ r ≡ sittingOutcome (now (plan .entry)) (now (table .entry)) limit (now (saved .entry)) (now (answer .entry)) (now (work .entry)) .returned ⌝ }
+    ensures { λ _. ⌜ now (answer .exit) ≡ sittingOutcome (now (plan .entry)) (now (table .entry)) limit (now (saved .entry)) (now (answer .entry)) (now (work .entry)) .answer ⌝ }
+    ensures { λ _. ⌜ now (work .exit) ≡ sittingOutcome (now (plan .entry)) (now (table .entry)) limit (now (saved .entry)) (now (answer .entry)) (now (work .entry)) .work ⌝ }
 {
-    let v = verdict_of(plan, limit, saved, answer.len(), work.len());
+    let v = verdict_of(plan, table, limit, saved, answer.len(), work.len());
     if let CallVerdict::Refused(_) = v {
         return refusals::call_returned(v);
     }
@@ -101,6 +101,6 @@ pub fn sitting(plan: &[u8], limit: u64, saved: &[u8], answer: &mut [u8], work: &
         saved_writing::copied(saved, 0, work, 24);
         return 0;
     }
-    carry_on(plan, limit, saved, answer, work);
+    carry_on(plan, table, limit, saved, answer, work);
     0
 }

@@ -5,6 +5,7 @@ use borrow.Author.Needs.{needs}
 use borrow.Author.Tests.{not-true, not-false, eqb-true, eqb-false}
 use Rattle.reliability.specs.Networks.{Network}
 use Rattle.reliability.specs.Rule.{tree}
+use Rattle.tables.specs.Tables.{rating}
 use Rattle.plan.specs.Plans.{planOf}
 use Rattle.sittings.specs.Sittings.{traced}
 use Rattle.sittings.specs.Entries.{opensIn}
@@ -19,10 +20,10 @@ is-well-formed-requires c κs = search needs
 
 returns : tie.Need-returns
 returns c =
-    let a = c .before .before .before .before .args in
-    not-formed (tree (planOf (a .plan .now))) (a .saved .now) (sym (c .before .is-well-formed .ensures) ∙ not-true _ (c .if1 .taken))
+    let a = c .before .before .before .before .before .args in
+    not-formed (tree (planOf (rating (a .table .now)) (a .plan .now))) (a .saved .now) (sym (c .before .is-well-formed .ensures) ∙ not-true _ (c .if1 .taken))
 
-formed : (c : tie.Else1) → wellFormed (c .before .before .before .before .args .saved .now) ≡ true
+formed : (c : tie.Else1) → wellFormed (c .before .before .before .before .before .args .saved .now) ≡ true
 formed c = sym (c .before .is-well-formed .ensures) ∙ not-false _ (c .if1 .left)
 
 is-complete-requires : tie.Need-is-complete-requires
@@ -31,13 +32,13 @@ is-complete-requires c κs = formed-size _ (formed c)
 returns-2 : tie.Need-returns-2
 returns-2 c =
     let b = c .before .before in
-    let a = b .before .before .before .before .args in
-    complete-passes (tree (planOf (a .plan .now))) (a .saved .now) (formed b) (eqb-true (stateIn (a .saved .now)) 1 (sym (c .before .is-complete .ensures) ∙ c .if2 .taken))
+    let a = b .before .before .before .before .before .args in
+    complete-passes (tree (planOf (rating (a .table .now)) (a .plan .now))) (a .saved .now) (formed b) (eqb-true (stateIn (a .saved .now)) 1 (sym (c .before .is-complete .ensures) ∙ c .if2 .taken))
 
-begun : (c : tie.Else2) → stateIn (c .before .before .before .before .before .before .args .saved .now) ≡ 0
+begun : (c : tie.Else2) → stateIn (c .before .before .before .before .before .before .before .args .saved .now) ≡ 0
 begun c =
     let b = c .before .before in
-    let a = b .before .before .before .before .args in
+    let a = b .before .before .before .before .before .args in
     begun-else (a .saved .now) (formed b) (eqb-false (stateIn (a .saved .now)) 1 (sym (c .before .is-complete .ensures) ∙ c .if2 .left))
 
 row-of-requires : tie.Need-row-of-requires
@@ -56,21 +57,21 @@ traces-requires c κs =
     (c .before .before .network-of .ensures .2, omega (arith, c .count-of .ensures), search needs)
 
 -- what is traced is the plan's work and the open splits of the bytes
-traced-is : (c : tie.After-traces) → let a = c .before .before .before .before .before .before .before .before .before .before .before .args in
-    c .traces .result ≡ traced (tree (planOf (a .plan .now))) (opensOf (a .saved .now))
+traced-is : (c : tie.After-traces) → let a = c .before .before .before .before .before .before .before .before .before .before .before .before .args in
+    c .traces .result ≡ traced (tree (planOf (rating (a .table .now)) (a .plan .now))) (opensOf (a .saved .now))
 traced-is c =
     let q = c .before .before .before .before in
     c .traces .ensures ∙ ap₂ (λ (g : Network) os. traced (tree g) os) (c .before .before .before .network-of .ensures .0) (ap (opensIn (q .row-of .result) 0) (c .before .count-of .ensures) ∙ q .row-of .ensures)
 
 returns-3 : tie.Need-returns-3
 returns-3 c =
-    let a = c .before .before .before .before .before .before .before .before .before .before .before .before .args in
-    by-traces (tree (planOf (a .plan .now))) (a .saved .now) (formed (c .before .before .before .before .before .before .before .before)) true (sym (traced-is (c .before)) ∙ c .if3 .taken)
+    let a = c .before .before .before .before .before .before .before .before .before .before .before .before .before .args in
+    by-traces (tree (planOf (rating (a .table .now)) (a .plan .now))) (a .saved .now) (formed (c .before .before .before .before .before .before .before .before)) true (sym (traced-is (c .before)) ∙ c .if3 .taken)
 
 returns-4 : tie.Need-returns-4
 returns-4 c =
-    let a = c .before .before .before .before .before .before .before .before .before .before .before .before .args in
-    by-traces (tree (planOf (a .plan .now))) (a .saved .now) (formed (c .before .before .before .before .before .before .before .before)) false (sym (traced-is (c .before)) ∙ c .if3 .left)
+    let a = c .before .before .before .before .before .before .before .before .before .before .before .before .before .args in
+    by-traces (tree (planOf (rating (a .table .now)) (a .plan .now))) (a .saved .now) (formed (c .before .before .before .before .before .before .before .before)) false (sym (traced-is (c .before)) ∙ c .if3 .left)
 
 pub saved-verdict-spec : {M : Type 1} → statement M
 saved-verdict-spec =

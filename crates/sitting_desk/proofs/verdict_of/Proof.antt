@@ -1,11 +1,6 @@
-use mathlib.Core.Path.{sym, ap, _∙_}
-use Rattle.reliability.specs.Rule.{tree}
-use Rattle.plan.specs.Plans.{planOf}
+use mathlib.Core.Path.{sym, _∙_}
 use Rattle.plan.proofs.Verdicts.{accepted-means}
-use Rattle.refusals.specs.declared.CallVerdict.{CallVerdict}
-use Rattle.refusals.specs.Refusals.{also}
-use Rattle.refusals.proofs.Calls.{sitting-means}
-use Rattle.saved_verdict.specs.SavedVerdict.{savedVerdict}
+use Rattle.refusals.proofs.Calls.{sitting-means, passed-on, refused-first}
 use borrow.Author.Needs.{needs}
 use Rattle.sitting_desk.proofs.verdict_of.Statement.{statement}
 use Rattle.sitting_desk.proofs.verdict_of.Tie as tie
@@ -18,22 +13,19 @@ enum-told c = search needs
 
 saved-verdict-requires : tie.Need-saved-verdict-requires
 saved-verdict-requires c κs =
-    let a = c .before .before .before .before .before .args in
+    let a = c .before .before .before .before .before .before .args in
     let e = sym (c .before .before .sitting-verdict .ensures) ∙ c .enum-told .given .1 in
-    accepted-means (a .plan .now) .1 (sitting-means (a .plan .now) (a .limit) (a .room) (a .space) .0 e .3)
+    let h = sitting-means (a .plan .now) (a .table .now) (a .limit) (a .room) (a .space) .0 e in
+    (accepted-means (a .plan .now) .1 (h .4), h .3)
 
 enum-known-c : tie.Need-enum-known-c
 enum-known-c c = search needs
 
 returns : tie.Need-returns
-returns c =
-    let a = c .before .before .before .before .before .before .args in
-    c .saved-verdict .ensures ∙ ap (λ (u : CallVerdict). also u (savedVerdict (tree (planOf (a .plan .now))) (a .saved .now))) (sym (sym (c .before .before .before .sitting-verdict .ensures) ∙ c .before .enum-told .given .1))
+returns c = passed-on _ _ _ _ (c .before .before .before .sitting-verdict .ensures) (c .before .enum-told .given .1) (c .saved-verdict .ensures)
 
 returns-2 : tie.Need-returns-2
-returns-2 c =
-    let a = c .before .before .before .before .before .before .args in
-    ap (λ (u : CallVerdict). also u (savedVerdict (tree (planOf (a .plan .now))) (a .saved .now))) (sym (c .before .c .given .1) ∙ c .before .before .before .sitting-verdict .ensures)
+returns-2 c = refused-first _ _ _ _ (c .before .before .before .sitting-verdict .ensures) (c .before .c .given .1)
 
 pub verdict-of-spec : {M : Type 1} → statement M
 verdict-of-spec =
