@@ -14,6 +14,8 @@ use Rattle.rounding.specs.Rounding.{S}
 use Rattle.reliability.specs.declared.Figure.{Figure}
 use Rattle.reliability.specs.Networks.{Valid}
 use Rattle.reliability.specs.Exact.{Weighted, sum, total, altogether}
+use Rattle.tables.specs.Tables.{rating, AcceptedTable}
+use Rattle.tables.proofs.Theorems.{rating-range}
 use Rattle.plan.specs.Plans.{WellFormed, planOf}
 use Rattle.plan.proofs.Verdicts.{accepted-means}
 use Rattle.plan.specs.Weights.{weightsOf, exactOf}
@@ -52,8 +54,8 @@ pub full-or-refused : (f : Figure) (b : List ℕ) (v : CallVerdict) → (v ≡ A
 full-or-refused f b Accepted room = inl (record { zero = refl; written = refl; later = refl; size = omega (arith, room refl, length-drop 16 b) })
 full-or-refused f b (Refused c) room = inr (record { numbered = omega (arith, call-number-range c); untouched = refl })
 
-pub valid-of : (plan : List ℕ) → WellFormed plan → Valid (planOf plan)
-valid-of plan w = plan-valid plan (accepted-means plan .1 w)
+pub valid-of : (plan table : List ℕ) → AcceptedTable table → WellFormed plan → Valid (planOf (rating table) plan)
+valid-of plan table fine w = plan-valid (rating table) plan (rating-range table fine) (accepted-means plan .1 w)
 
 -- ---- an answer read back
 
@@ -68,18 +70,20 @@ read-back f b (inl full) zero h = subst (λ l. Holds l f) (sym (full .written)) 
 read-back f b (inr refusal) zero h = absurd (omega (arith, refusal .numbered))
 
 -- what is promised of a plan's figure, of the numbers that the buffer holds
-module _ (plan after : List ℕ) (f : Figure) (holds : Holds after f) where
+module _ (plan table after : List ℕ) (f : Figure) (holds : Holds after f) where
   abbrev ws : List Weighted
-  ws = weightsOf plan
+  ws = weightsOf (rating table) plan
 
-  pub encloses-read : (f .low * total ws ≤ S * sum (planOf plan .nodes) ws []) × (S * sum (planOf plan .nodes) ws [] ≤ f .high * total ws)
-      → Encloses plan after
+  pub encloses-read : AcceptedTable table → (f .low * total ws ≤ S * sum (planOf (rating table) plan .nodes) ws []) × (S * sum (planOf (rating table) plan .nodes) ws [] ≤ f .high * total ws)
+      → Encloses plan table after
   unfolding exactOf
-  encloses-read h = record { low = rw (holds .low, ← plan-total plan) (h .0); high = rw (holds .high, ← plan-total plan) (h .1) }
+  encloses-read fine h =
+      let all = plan-total plan (rating table) (rating-range table fine) in
+      record { low = rw (holds .low, ← all) (h .0); high = rw (holds .high, ← all) (h .1) }
 
-  pub width-read : (f .finished ≡ true → f .high ≤ f .low + (2 * length (planOf plan .links) + 4 * length (planOf plan .nodes) + 2 * altogether (unitsIn plan)))
+  pub width-read : (f .finished ≡ true → f .high ≤ f .low + (2 * length (planOf (rating table) plan .links) + 4 * length (planOf (rating table) plan .nodes) + 2 * altogether (unitsIn plan)))
       → Narrow plan after
-  width-read h done = omega (arith, h (mark-true (f .finished) (holds .finished) done), holds, plan-links plan, plan-nodes plan, plan-units plan)
+  width-read h done = omega (arith, h (mark-true (f .finished) (holds .finished) done), holds, plan-links (rating table) plan, plan-nodes (rating table) plan, plan-units plan)
 
 pub signed-back : (z : ℤ) → mag z < 2 ^ 31 → signed (twos z) ≡ z
 unfolding signed

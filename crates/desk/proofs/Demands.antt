@@ -11,6 +11,8 @@ use Rattle.reliability.specs.declared.Figure.{Figure}
 use Rattle.reliability.specs.Networks.{Network, Valid}
 use Rattle.reliability.specs.Rule.{figure, needed}
 use Rattle.reliability.proofs.Theorems as rule
+use Rattle.tables.specs.Tables.{rating, AcceptedTable}
+use Rattle.tables.proofs.Theorems.{rating-range}
 use Rattle.plan.specs.Plans.{WellFormed, verdict, planOf}
 use Rattle.plan.proofs.Verdicts.{accepted-means, zero-means}
 use Rattle.plan.proofs.Weights.{plan-enclosed, plan-lengths}
@@ -28,15 +30,15 @@ pub check-accepted : (plan : List ℕ) → checkOutcome plan ≡ 0 ↔ WellForme
 unfolding checkOutcome
 check-accepted plan = Iff·trans (zero-means (verdict plan)) (accepted-means plan)
 
-module _ (plan : List ℕ) (limit : ℕ) (b : List ℕ) where
+module _ (plan table : List ℕ) (limit : ℕ) (b : List ℕ) where
   abbrev o : Outcome
-  o = figureOutcome plan limit b
+  o = figureOutcome plan table limit b
 
   abbrev v : CallVerdict
-  v = figureVerdict plan limit (length b)
+  v = figureVerdict plan table limit (length b)
 
   abbrev g : Network
-  g = planOf plan
+  g = planOf (rating table) plan
 
   abbrev f : Figure
   f = figure g limit
@@ -44,7 +46,7 @@ module _ (plan : List ℕ) (limit : ℕ) (b : List ℕ) where
   -- demand 1: either a full answer or a numbered refusal with the buffer untouched
   pub figure-full-or-refused : Full o b (withFigure f b) ⊎ Refusal o b
   unfolding figureOutcome
-  figure-full-or-refused = full-or-refused f b v (λ e. figure-means plan limit (length b) .0 e .1)
+  figure-full-or-refused = full-or-refused f b v (λ e. figure-means plan table limit (length b) .0 e .1)
 
   -- demand 1: the number is that of the first cause in the table's order, 0 if there is none
   pub figure-returned : o .returned ≡ callReturned v
@@ -56,19 +58,22 @@ module _ (plan : List ℕ) (limit : ℕ) (b : List ℕ) where
   figure-zero = zero-of v figure-returned
 
   -- demand 1: a call that meets none of its rows is accepted, and no other
-  pub figure-accepted : o .returned ≡ 0 ↔ (limit ≤ 1000000) × (16 ≤ length b) × WellFormed plan
-  figure-accepted = Iff·trans figure-zero (figure-means plan limit (length b))
+  pub figure-accepted : o .returned ≡ 0 ↔ (limit ≤ 1000000) × (16 ≤ length b) × AcceptedTable table × WellFormed plan
+  figure-accepted = Iff·trans figure-zero (figure-means plan table limit (length b))
 
   -- a call that returned 0, and the buffer that it left
   module _ (zero : o .returned ≡ 0) where
     abbrev after : List ℕ
     after = o .buffer
 
+    fine : AcceptedTable table
+    fine = figure-accepted .0 zero .2
+
     well : WellFormed plan
-    well = figure-accepted .0 zero .2
+    well = figure-accepted .0 zero .3
 
     valid : Valid g
-    valid = valid-of plan well
+    valid = valid-of plan table fine well
 
     range : (f .low ≤ f .high) × (f .high ≤ S)
     range = (rule.low-high g valid limit, rule.high-range g valid limit)
@@ -79,8 +84,8 @@ module _ (plan : List ℕ) (limit : ℕ) (b : List ℕ) where
         read-back f b figure-full-or-refused zero (omega (arith, range, figure-accepted .0 zero .0, rule.steps-taken g limit))
 
     -- demand 2: low × S^(m+2L) ≤ S × N ≤ high × S^(m+2L), also when steps run out
-    pub figure-encloses : Encloses plan after
-    figure-encloses = encloses-read plan after f figure-numbers (rule.enclosure g valid limit (plan-enclosed plan))
+    pub figure-encloses : Encloses plan table after
+    figure-encloses = encloses-read plan table after f figure-numbers fine (rule.enclosure g valid limit (plan-enclosed plan (rating table) (rating-range table fine)))
 
     -- from 0 to S, low no higher than high
     pub figure-range : (lowIn after ≤ highIn after) × (highIn after ≤ S)
@@ -96,14 +101,14 @@ module _ (plan : List ℕ) (limit : ℕ) (b : List ℕ) where
 
     -- demand 3: a finished pair is at most 2m + 4n + 4L wide, however many splits it took
     pub figure-width : Narrow plan after
-    figure-width = width-read plan after f figure-numbers (rule.width g valid limit (plan-enclosed plan))
+    figure-width = width-read plan table after f figure-numbers (rule.width g valid limit (plan-enclosed plan (rating table) (rating-range table fine)))
 
     -- so no plan's 0 to S is finished
     pub figure-narrow : finishedIn after ≡ 1 → highIn after ≤ lowIn after + 512
     figure-narrow done = omega (arith, figure-width done, well .nodes, well .links, plan-lengths plan)
 
 -- demand 3: whichever two accepted limits, the second no smaller than the first, the second pair lies within the first
-pub figure-nesting : (plan : List ℕ) (limit larger : ℕ) (b c : List ℕ) → figureOutcome plan limit b .returned ≡ 0 → figureOutcome plan larger c .returned ≡ 0
-    → limit ≤ larger → LiesWithin (figureOutcome plan larger c .buffer) (figureOutcome plan limit b .buffer)
-figure-nesting plan limit larger b c p q h =
-    omega (arith, figure-numbers plan limit b p, figure-numbers plan larger c q, rule.nesting (planOf plan) (valid plan limit b p) limit larger h)
+pub figure-nesting : (plan table : List ℕ) (limit larger : ℕ) (b c : List ℕ) → figureOutcome plan table limit b .returned ≡ 0 → figureOutcome plan table larger c .returned ≡ 0
+    → limit ≤ larger → LiesWithin (figureOutcome plan table larger c .buffer) (figureOutcome plan table limit b .buffer)
+figure-nesting plan table limit larger b c p q h =
+    omega (arith, figure-numbers plan table limit b p, figure-numbers plan table larger c q, rule.nesting (planOf (rating table) plan) (valid plan table limit b p) limit larger h)

@@ -17,6 +17,9 @@ use Rattle.reliability.specs.Comparisons.{difference, exactDifference}
 use Rattle.reliability.proofs.Signed.{minus-range}
 use Rattle.reliability.proofs.Theorems.{high-range, low-high}
 use Rattle.reliability.proofs.Comparisons as rule
+use Rattle.ratings.specs.Ratings.{AtMostS}
+use Rattle.tables.specs.Tables.{rating, AcceptedTable}
+use Rattle.tables.proofs.Theorems.{rating-range}
 use Rattle.plan.specs.Plans.{WellFormed, sizeN, sizeM, verdict, planOf}
 use Rattle.plan.proofs.Verdicts.{accepted-means}
 use Rattle.plan.specs.Weights.{exactOf, lengths}
@@ -31,18 +34,18 @@ use Rattle.answers.specs.Answers.{lowIn, highIn, stepsIn, finishedIn}
 use Rattle.desk.specs.Answers.{signed, HoldsSigned, LiesWithinSigned, Marked, Full, Refusal}
 use Rattle.desk.proofs.Answers.{full-or-refused, returned-of, zero-of, valid-of, read-back, signed-back, twos-range, marked, both-finished, mark-true}
 
-module _ (first second : List ℕ) (limit : ℕ) (b : List ℕ) where
+module _ (first second table : List ℕ) (limit : ℕ) (b : List ℕ) where
   abbrev o : Outcome
-  o = differenceOutcome first second limit b
+  o = differenceOutcome first second table limit b
 
   abbrev v : CallVerdict
-  v = differenceVerdict first second limit (length b)
+  v = differenceVerdict first second table limit (length b)
 
   abbrev g : Network
-  g = planOf first
+  g = planOf (rating table) first
 
   abbrev h : Network
-  h = planOf second
+  h = planOf (rating table) second
 
   abbrev d : Difference
   d = difference g h limit
@@ -52,12 +55,12 @@ module _ (first second : List ℕ) (limit : ℕ) (b : List ℕ) where
   bits = record { low = twos (d .low); high = twos (d .high); steps = d .steps; finished = d .finished }
 
   -- the causes of a figure, then plan B's
-  means : v ≡ Accepted ↔ (limit ≤ 1000000) × (16 ≤ length b) × WellFormed first × WellFormed second
+  means : v ≡ Accepted ↔ (limit ≤ 1000000) × (16 ≤ length b) × AcceptedTable table × WellFormed first × WellFormed second
   means =
-      let p = figure-means first limit (length b) in
+      let p = figure-means first table limit (length b) in
       let q = Iff·trans (second-means (verdict second)) (accepted-means second) in
-      let e = also-means (figureVerdict first limit (length b)) (plannedSecond (verdict second)) in
-      (λ h. let c = p .0 (e .0 h .0) in (c .0, c .1, c .2, q .0 (e .0 h .1)), λ h. e .1 (p .1 (h .0, h .1, h .2), q .1 (h .3)))
+      let e = also-means (figureVerdict first table limit (length b)) (plannedSecond (verdict second)) in
+      (λ h. let c = p .0 (e .0 h .0) in (c .0, c .1, c .2, c .3, q .0 (e .0 h .1)), λ h. e .1 (p .1 (h .0, h .1, h .2, h .3), q .1 (h .4)))
 
   -- demand 1: either a full answer or a numbered refusal with the buffer untouched
   pub difference-full-or-refused : Full o b (withDifference d b) ⊎ Refusal o b
@@ -74,7 +77,7 @@ module _ (first second : List ℕ) (limit : ℕ) (b : List ℕ) where
   difference-zero = zero-of v difference-returned
 
   -- demand 1: a call that meets none of its rows is accepted, and no other
-  pub difference-accepted : o .returned ≡ 0 ↔ (limit ≤ 1000000) × (16 ≤ length b) × WellFormed first × WellFormed second
+  pub difference-accepted : o .returned ≡ 0 ↔ (limit ≤ 1000000) × (16 ≤ length b) × AcceptedTable table × WellFormed first × WellFormed second
   difference-accepted = Iff·trans difference-zero means
 
   -- a call that returned 0, and the buffer that it left
@@ -90,13 +93,13 @@ module _ (first second : List ℕ) (limit : ℕ) (b : List ℕ) where
 
     -- the exact reliabilities: N over D of the first plan, M over E of the second
     abbrev N : ℕ
-    N = exactOf first
+    N = exactOf (rating table) first
 
     abbrev D : ℕ
     D = S ^ (sizeM first + 2 * lengths first)
 
     abbrev M : ℕ
-    M = exactOf second
+    M = exactOf (rating table) second
 
     abbrev E : ℕ
     E = S ^ (sizeM second + 2 * lengths second)
@@ -104,11 +107,17 @@ module _ (first second : List ℕ) (limit : ℕ) (b : List ℕ) where
     abbrev exactly : ℤ
     exactly = exactDifference N D M E
 
+    fine : AcceptedTable table
+    fine = difference-accepted .0 zero .2
+
+    chances : AtMostS (rating table)
+    chances = rating-range table fine
+
     gv : Valid g
-    gv = valid-of first (difference-accepted .0 zero .2)
+    gv = valid-of first table fine (difference-accepted .0 zero .3)
 
     hv : Valid h
-    hv = valid-of second (difference-accepted .0 zero .3)
+    hv = valid-of second table fine (difference-accepted .0 zero .4)
 
     small : (mag (d .low) < 2 ^ 31) × (mag (d .high) < 2 ^ 31)
     small =
@@ -132,7 +141,7 @@ module _ (first second : List ℕ) (limit : ℕ) (b : List ℕ) where
     pub difference-encloses : ((low *ℤ pos (D * E)) ≤ℤ (pos S *ℤ exactly)) × ((pos S *ℤ exactly) ≤ℤ (high *ℤ pos (D * E)))
     unfolding exactOf
     difference-encloses =
-        rw (difference-numbers .low, difference-numbers .high, ← plan-total first, ← plan-total second) (rule.difference-enclosure g h gv hv limit (plan-enclosed first) (plan-enclosed second))
+        rw (difference-numbers .low, difference-numbers .high, ← plan-total first (rating table) chances, ← plan-total second (rating table) chances) (rule.difference-enclosure g h gv hv limit (plan-enclosed first (rating table) chances) (plan-enclosed second (rating table) chances))
 
     -- from −S to S, low no higher than high
     pub difference-range : (negℤ (pos S) ≤ℤ low) × (low ≤ℤ high) × (high ≤ℤ pos S)
@@ -151,15 +160,15 @@ module _ (first second : List ℕ) (limit : ℕ) (b : List ℕ) where
     -- demand 3, likewise: a finished pair is no wider than its two evaluations' bounds together
     pub difference-width : finishedIn after ≡ 1 → high ≤ℤ (low +ℤ pos ((2 * sizeM first + 4 * sizeN first + 4 * lengths first) + (2 * sizeM second + 4 * sizeN second + 4 * lengths second)))
     difference-width done =
-        let wide = rule.difference-width g h gv hv limit (plan-enclosed first) (plan-enclosed second) (mark-true (d .finished) (difference-numbers .finished) done) in
+        let wide = rule.difference-width g h gv hv limit (plan-enclosed first (rating table) chances) (plan-enclosed second (rating table) chances) (mark-true (d .finished) (difference-numbers .finished) done) in
         rw (difference-numbers .low, difference-numbers .high)
-        (subst (λ (k : ℕ). d .high ≤ℤ (d .low +ℤ pos k)) (omega (arith, plan-links first, plan-nodes first, plan-links second, plan-nodes second, plan-units first, plan-units second)) wide)
+        (subst (λ (k : ℕ). d .high ≤ℤ (d .low +ℤ pos k)) (omega (arith, plan-links (rating table) first, plan-nodes (rating table) first, plan-links (rating table) second, plan-nodes (rating table) second, plan-units first, plan-units second)) wide)
 
 -- demand 3, likewise: with a larger limit and all else alike the second pair lies within the first
-pub difference-nesting : (first second : List ℕ) (limit larger : ℕ) (b c : List ℕ) → differenceOutcome first second limit b .returned ≡ 0 → differenceOutcome first second larger c .returned ≡ 0
-    → limit ≤ larger → LiesWithinSigned (differenceOutcome first second larger c .buffer) (differenceOutcome first second limit b .buffer)
-difference-nesting first second limit larger b c p q l =
-    let x = difference-numbers first second limit b p in
-    let y = difference-numbers first second larger c q in
-    let nested = rule.difference-nesting (planOf first) (planOf second) (gv first second limit b p) (hv first second limit b p) limit larger l in
+pub difference-nesting : (first second table : List ℕ) (limit larger : ℕ) (b c : List ℕ) → differenceOutcome first second table limit b .returned ≡ 0 → differenceOutcome first second table larger c .returned ≡ 0
+    → limit ≤ larger → LiesWithinSigned (differenceOutcome first second table larger c .buffer) (differenceOutcome first second table limit b .buffer)
+difference-nesting first second table limit larger b c p q l =
+    let x = difference-numbers first second table limit b p in
+    let y = difference-numbers first second table larger c q in
+    let nested = rule.difference-nesting (planOf (rating table) first) (planOf (rating table) second) (gv first second table limit b p) (hv first second table limit b p) limit larger l in
     record { low = rw (x .low, y .low) (nested .0); high = rw (x .high, y .high) (nested .1) }

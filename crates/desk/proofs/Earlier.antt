@@ -8,6 +8,8 @@ use Rattle.rounding.specs.Rounding.{S}
 use Rattle.reliability.specs.declared.Figure.{Figure}
 use Rattle.reliability.specs.Networks.{Network, Valid}
 use Rattle.reliability.specs.Rule.{splits, tree}
+use Rattle.tables.specs.Tables.{rating, AcceptedTable}
+use Rattle.tables.proofs.Theorems.{rating-range}
 use Rattle.plan.specs.Plans.{WellFormed, planOf}
 use Rattle.plan.proofs.Weights.{plan-enclosed}
 use Rattle.answers.specs.Answers.{lowIn, highIn, stepsIn, finishedIn, Holds}
@@ -22,19 +24,19 @@ use Rattle.sitting_desk.proofs.Demands.{good, earlier-carried}
 use Rattle.desk.specs.Answers.{Encloses, Narrow, Marked, LiesWithin}
 use Rattle.desk.proofs.Answers.{valid-of, encloses-read, width-read, marked}
 
-module _ (plan : List ℕ) (well : WellFormed plan) (s : Saved) (e : Earlier plan s) where
+module _ (plan table : List ℕ) (fine : AcceptedTable table) (well : WellFormed plan) (s : Saved) (e : Earlier plan table s) where
   abbrev g : Network
-  g = planOf plan
+  g = planOf (rating table) plan
 
   valid : Valid g
-  valid = valid-of plan well
+  valid = valid-of plan table fine well
 
   good-work : GoodSaved g s
-  good-work = good plan well s e
+  good-work = good plan table fine well s e
 
   module _ (x : Lent) (a : Allowed x) where
     abbrev last : SittingOutcome
-    last = sat plan (savedBytes s) x
+    last = sat plan table (savedBytes s) x
 
     abbrev after : List ℕ
     after = last .answer
@@ -44,26 +46,26 @@ module _ (plan : List ℕ) (well : WellFormed plan) (s : Saved) (e : Earlier pla
 
     -- it is accepted
     pub carried-returned : last .returned ≡ 0
-    carried-returned = ap (λ (o : SittingOutcome). o .returned) (earlier-carried plan well s e x a)
+    carried-returned = ap (λ (o : SittingOutcome). o .returned) (earlier-carried plan table fine well s e x a)
 
     range : (f .low ≤ f .high) × (f .high ≤ S)
     range = (sitting-low-high g valid s good-work (x .limit), sitting-range g valid s good-work (x .limit))
 
     numbers : Holds after f
     numbers =
-        subst (λ (o : SittingOutcome). Holds (o .answer) f) (sym (earlier-carried plan well s e x a))
+        subst (λ (o : SittingOutcome). Holds (o .answer) f) (sym (earlier-carried plan table fine well s e x a))
         (written f (x .answer) (omega (arith, range, sitting-few g valid s good-work (x .limit))))
 
     -- demand 2: low × S^(m+2L) ≤ S × N ≤ high × S^(m+2L), also when steps run out
-    pub carried-encloses : Encloses plan after
-    carried-encloses = encloses-read plan after f numbers (sitting-enclosure g valid s good-work (x .limit) (plan-enclosed plan))
+    pub carried-encloses : Encloses plan table after
+    carried-encloses = encloses-read plan table after f numbers fine (sitting-enclosure g valid s good-work (x .limit) (plan-enclosed plan (rating table) (rating-range table fine)))
 
     pub carried-range : (lowIn after ≤ highIn after) × (highIn after ≤ S)
     carried-range = omega (arith, numbers, range)
 
     -- demand 3: a finished pair is at most 2m + 4n + 4L wide
     pub carried-width : Narrow plan after
-    carried-width = width-read plan after f numbers (sitting-width g valid s good-work (x .limit) (plan-enclosed plan))
+    carried-width = width-read plan table after f numbers (sitting-width g valid s good-work (x .limit) (plan-enclosed plan (rating table) (rating-range table fine)))
 
     -- of begun work, with its steps so far and the splits still to take
     module _ (os : List Open) (taken : ℕ) (is : s ≡ begun os taken) where

@@ -14,6 +14,9 @@ use Rattle.reliability.specs.Rule.{needed}
 use Rattle.reliability.specs.Comparisons.{soundAt, soundCount, brokenAt, importance, exactImportance}
 use Rattle.reliability.proofs.Comparisons as rule
 use Rattle.reader.specs.Layout.{sizeN, sizeM, firstEnd, secondEnd}
+use Rattle.ratings.specs.Ratings.{AtMostS}
+use Rattle.tables.specs.Tables.{rating, AcceptedTable}
+use Rattle.tables.proofs.Theorems.{rating-range}
 use Rattle.plan.specs.Plans.{WellFormed, planOf}
 use Rattle.plan.specs.Weights.{weightsOf, otherLengths}
 use Rattle.plan.proofs.Accepted.{plan-links, plan-nodes, plan-ends}
@@ -27,26 +30,26 @@ use Rattle.desk.specs.Outcomes.{Outcome, importanceOutcome}
 use Rattle.desk.specs.Answers.{LiesWithin, Marked, Full, Refusal}
 use Rattle.desk.proofs.Answers.{full-or-refused, returned-of, zero-of, valid-of, read-back, marked, both-finished, mark-true}
 
-module _ (plan : List ℕ) (place limit : ℕ) (b : List ℕ) where
+module _ (plan table : List ℕ) (place limit : ℕ) (b : List ℕ) where
   abbrev o : Outcome
-  o = importanceOutcome plan place limit b
+  o = importanceOutcome plan table place limit b
 
   abbrev v : CallVerdict
-  v = importanceVerdict plan place limit (length b)
+  v = importanceVerdict plan table place limit (length b)
 
   abbrev g : Network
-  g = planOf plan
+  g = planOf (rating table) plan
 
   abbrev f : Figure
   f = importance g place limit
 
   -- the causes of a figure, then the place
-  means : v ≡ Accepted ↔ (limit ≤ 1000000) × (16 ≤ length b) × WellFormed plan × (place < sizeM plan)
+  means : v ≡ Accepted ↔ (limit ≤ 1000000) × (16 ≤ length b) × AcceptedTable table × WellFormed plan × (place < sizeM plan)
   means =
-      let w = figure-means plan limit (length b) in
+      let w = figure-means plan table limit (length b) in
       let p = placed-means plan place in
-      let e = also-means (figureVerdict plan limit (length b)) (placed plan place) in
-      (λ h. let c = w .0 (e .0 h .0) in (c .0, c .1, c .2, p .0 (e .0 h .1)), λ h. e .1 (w .1 (h .0, h .1, h .2), p .1 (h .3)))
+      let e = also-means (figureVerdict plan table limit (length b)) (placed plan place) in
+      (λ h. let c = w .0 (e .0 h .0) in (c .0, c .1, c .2, c .3, p .0 (e .0 h .1)), λ h. e .1 (w .1 (h .0, h .1, h .2, h .3), p .1 (h .4)))
 
   -- demand 1: either a full answer or a numbered refusal with the buffer untouched
   pub importance-full-or-refused : Full o b (withFigure f b) ⊎ Refusal o b
@@ -63,7 +66,7 @@ module _ (plan : List ℕ) (place limit : ℕ) (b : List ℕ) where
   importance-zero = zero-of v importance-returned
 
   -- demand 1: a call that meets none of its rows is accepted, and no other
-  pub importance-accepted : o .returned ≡ 0 ↔ (limit ≤ 1000000) × (16 ≤ length b) × WellFormed plan × (place < sizeM plan)
+  pub importance-accepted : o .returned ≡ 0 ↔ (limit ≤ 1000000) × (16 ≤ length b) × AcceptedTable table × WellFormed plan × (place < sizeM plan)
   importance-accepted = Iff·trans importance-zero means
 
   -- a call that returned 0, and the buffer that it left
@@ -85,13 +88,19 @@ module _ (plan : List ℕ) (place limit : ℕ) (b : List ℕ) where
     L = otherLengths plan place
 
     abbrev exactly : ℕ
-    exactly = exactImportance g (weightsOf plan) place
+    exactly = exactImportance g (weightsOf (rating table) plan) place
+
+    fine : AcceptedTable table
+    fine = importance-accepted .0 zero .2
+
+    most : AtMostS (rating table)
+    most = rating-range table fine
 
     valid : Valid g
-    valid = valid-of plan (importance-accepted .0 zero .2)
+    valid = valid-of plan table fine (importance-accepted .0 zero .3)
 
     present : place < length (g .links)
-    present = omega (arith, importance-accepted .0 zero .3, plan-links plan)
+    present = omega (arith, importance-accepted .0 zero .4, plan-links (rating table) plan)
 
     range : (f .low ≤ f .high) × (f .high ≤ S)
     range = rule.importance-range g valid place present limit
@@ -104,7 +113,7 @@ module _ (plan : List ℕ) (place limit : ℕ) (b : List ℕ) where
     -- demand 2: low × S^(m−1+2L) ≤ S × (sound − broken) ≤ high × S^(m−1+2L)
     pub importance-encloses : (lowIn after * S ^ (fewer + 2 * L) ≤ S * exactly) × (S * exactly ≤ highIn after * S ^ (fewer + 2 * L))
     importance-encloses =
-        rw (importance-numbers .low, importance-numbers .high, ← others-total plan place (importance-accepted .0 zero .3)) (rule.importance-enclosure g valid place present limit (plan-enclosed plan))
+        rw (importance-numbers .low, importance-numbers .high, ← others-total plan place (rating table) most (importance-accepted .0 zero .4)) (rule.importance-enclosure g valid place present limit (plan-enclosed plan (rating table) most))
 
     -- from 0 to S, low no higher than high
     pub importance-range : (lowIn after ≤ highIn after) × (highIn after ≤ S)
@@ -128,14 +137,14 @@ module _ (plan : List ℕ) (place limit : ℕ) (b : List ℕ) where
     pub importance-width : finishedIn after ≡ 1
         → highIn after ≤ lowIn after + ((2 * fewer + 4 * kept + 4 * L) + (2 * fewer + 4 * sizeN plan + 4 * L))
     importance-width done =
-        let w = rule.importance-width g valid place present limit (plan-enclosed plan) (mark-true (f .finished) (importance-numbers .finished) done) in
-        let ends = plan-ends plan place (importance-accepted .0 zero .3) in
-        let count : soundCount g place ≡ kept = rw (ends .0, ends .1, plan-nodes plan) in
-        omega (arith, importance-numbers, plan-links plan, plan-nodes plan, others-units plan place)
+        let w = rule.importance-width g valid place present limit (plan-enclosed plan (rating table) most) (mark-true (f .finished) (importance-numbers .finished) done) in
+        let ends = plan-ends (rating table) plan place (importance-accepted .0 zero .4) in
+        let count : soundCount g place ≡ kept = rw (ends .0, ends .1, plan-nodes (rating table) plan) in
+        omega (arith, importance-numbers, plan-links (rating table) plan, plan-nodes (rating table) plan, others-units plan place)
 
 -- demand 3, likewise: with a larger limit and all else alike the second pair lies within the first
-pub importance-nesting : (plan : List ℕ) (place limit larger : ℕ) (b c : List ℕ) → importanceOutcome plan place limit b .returned ≡ 0 → importanceOutcome plan place larger c .returned ≡ 0
-    → limit ≤ larger → LiesWithin (importanceOutcome plan place larger c .buffer) (importanceOutcome plan place limit b .buffer)
-importance-nesting plan place limit larger b c p q h =
-    let nested = rule.importance-nesting (planOf plan) (valid plan place limit b p) place (present plan place limit b p) limit larger h in
-    omega (arith, importance-numbers plan place limit b p, importance-numbers plan place larger c q)
+pub importance-nesting : (plan table : List ℕ) (place limit larger : ℕ) (b c : List ℕ) → importanceOutcome plan table place limit b .returned ≡ 0 → importanceOutcome plan table place larger c .returned ≡ 0
+    → limit ≤ larger → LiesWithin (importanceOutcome plan table place larger c .buffer) (importanceOutcome plan table place limit b .buffer)
+importance-nesting plan table place limit larger b c p q h =
+    let nested = rule.importance-nesting (planOf (rating table) plan) (valid plan table place limit b p) place (present plan table place limit b p) limit larger h in
+    omega (arith, importance-numbers plan table place limit b p, importance-numbers plan table place larger c q)

@@ -10,6 +10,7 @@ use lib.ListN.{length, drop}
 use lib.Signed.{_≤ℤ_}
 use Rattle.rounding.specs.Rounding.{S}
 use Rattle.reliability.specs.declared.Difference.{Difference}
+use Rattle.tables.specs.Tables.{rating}
 use Rattle.plan.specs.Plans.{sizeN, sizeM}
 use Rattle.plan.specs.Weights.{exactOf, lengths}
 use Rattle.answers.specs.Answers.{lowIn, highIn, stepsIn, finishedIn}
@@ -35,10 +36,10 @@ pub record LiesWithinSigned (second first : List ℕ) : Type 0 where
   pub low : signed (lowIn first) ≤ℤ signed (lowIn second)
   pub high : signed (highIn second) ≤ℤ signed (highIn first)
 
--- a pair encloses the exact reliability of a plan, N over S^(m+2L)
-pub record Encloses (plan b : List ℕ) : Type 0 where
-  pub low : lowIn b * S ^ (sizeM plan + 2 * lengths plan) ≤ S * exactOf plan
-  pub high : S * exactOf plan ≤ highIn b * S ^ (sizeM plan + 2 * lengths plan)
+-- a pair encloses the exact reliability of a plan under a table, N over S^(m+2L)
+pub record Encloses (plan table b : List ℕ) : Type 0 where
+  pub low : lowIn b * S ^ (sizeM plan + 2 * lengths plan) ≤ S * exactOf (rating table) plan
+  pub high : S * exactOf (rating table) plan ≤ highIn b * S ^ (sizeM plan + 2 * lengths plan)
 
 -- a finished pair is at most 2m + 4n + 4L wide
 abbrev pub Narrow : (plan b : List ℕ) → Type 0

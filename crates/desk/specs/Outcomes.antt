@@ -6,6 +6,7 @@ use lib.ListN.{length}
 use Rattle.reliability.specs.declared.Difference.{Difference}
 use Rattle.reliability.specs.Rule.{figure}
 use Rattle.reliability.specs.Comparisons.{importance, difference}
+use Rattle.tables.specs.Tables.{rating}
 use Rattle.plan.specs.Plans.{verdict, returned, planOf}
 use Rattle.refusals.specs.declared.CallVerdict.{CallVerdict}
 use Rattle.refusals.specs.declared.CallVerdict.the-variants.{Accepted, Refused}
@@ -36,17 +37,19 @@ unless (Refused c) b answer = record { returned = callReturned (Refused c); buff
 unfoldable pub checkOutcome : List ℕ → ℕ
 checkOutcome plan = returned (verdict plan)
 
-unfoldable pub figureOutcome : List ℕ → ℕ → List ℕ → Outcome
-figureOutcome plan limit b =
-    unless (figureVerdict plan limit (length b)) b
-    (withFigure (figure (planOf plan) limit) b)
+-- of a plan, the buyer's table, the limit and the answer buffer
+unfoldable pub figureOutcome : List ℕ → List ℕ → ℕ → List ℕ → Outcome
+figureOutcome plan table limit b =
+    unless (figureVerdict plan table limit (length b)) b
+    (withFigure (figure (planOf (rating table) plan) limit) b)
 
-unfoldable pub importanceOutcome : List ℕ → ℕ → ℕ → List ℕ → Outcome
-importanceOutcome plan place limit b =
-    unless (importanceVerdict plan place limit (length b)) b
-    (withFigure (importance (planOf plan) place limit) b)
+unfoldable pub importanceOutcome : List ℕ → List ℕ → ℕ → ℕ → List ℕ → Outcome
+importanceOutcome plan table place limit b =
+    unless (importanceVerdict plan table place limit (length b)) b
+    (withFigure (importance (planOf (rating table) plan) place limit) b)
 
-unfoldable pub differenceOutcome : List ℕ → List ℕ → ℕ → List ℕ → Outcome
-differenceOutcome first second limit b =
-    unless (differenceVerdict first second limit (length b)) b
-    (withDifference (difference (planOf first) (planOf second) limit) b)
+-- one table for both plans
+unfoldable pub differenceOutcome : List ℕ → List ℕ → List ℕ → ℕ → List ℕ → Outcome
+differenceOutcome first second table limit b =
+    unless (differenceVerdict first second table limit (length b)) b
+    (withDifference (difference (planOf (rating table) first) (planOf (rating table) second) limit) b)

@@ -23,39 +23,51 @@ pub extern "C" fn check(plan: &[u8]) -> u64
 }
 
 #[no_mangle]
-pub extern "C" fn figure(plan: &[u8], limit: u64, answer: &mut [u8]) -> u64
-    ensures { λ r. ⌜ r ≡ figureOutcome (now (plan .entry)) limit (now (answer .entry)) .returned ⌝ }
-    ensures { λ _. ⌜ now (answer .exit) ≡ figureOutcome (now (plan .entry)) limit (now (answer .entry)) .buffer ⌝ }
+pub extern "C" fn figure(plan: &[u8], table: &[u8], limit: u64, answer: &mut [u8]) -> u64
+    ensures { λ r. ⌜ r ≡ figureOutcome (now (plan .entry)) (now (table .entry)) limit (now (answer .entry)) .returned ⌝ }
+    ensures { λ _. ⌜ now (answer .exit) ≡ figureOutcome (now (plan .entry)) (now (table .entry)) limit (now (answer .entry)) .buffer ⌝ }
 {
-    let v = refusals::figure_verdict(plan, limit, answer.len());
+    let v = refusals::figure_verdict(plan, table, limit, answer.len());
     if let CallVerdict::Refused(_) = v {
         return refusals::call_returned(v);
     }
-    let f = factoring::work(loading::network_of(plan), limit);
+    let f = factoring::work(loading::network_of(plan, table), limit);
     answers::put_answer(answer, f.low, f.high, f.steps, f.finished);
     0
 }
 
 #[no_mangle]
-pub extern "C" fn importance(plan: &[u8], place: u64, limit: u64, answer: &mut [u8]) -> u64
-    ensures { λ r. ⌜ r ≡ importanceOutcome (now (plan .entry)) place limit (now (answer .entry)) .returned ⌝ }
-    ensures { λ _. ⌜ now (answer .exit) ≡ importanceOutcome (now (plan .entry)) place limit (now (answer .entry)) .buffer ⌝ }
+pub extern "C" fn importance(
+    plan: &[u8],
+    table: &[u8],
+    place: u64,
+    limit: u64,
+    answer: &mut [u8],
+) -> u64
+    ensures { λ r. ⌜ r ≡ importanceOutcome (now (plan .entry)) (now (table .entry)) place limit (now (answer .entry)) .returned ⌝ }
+    ensures { λ _. ⌜ now (answer .exit) ≡ importanceOutcome (now (plan .entry)) (now (table .entry)) place limit (now (answer .entry)) .buffer ⌝ }
 {
-    let w = refusals::importance_verdict(plan, place, limit, answer.len());
+    let w = refusals::importance_verdict(plan, table, place, limit, answer.len());
     if let CallVerdict::Refused(_) = w {
         return refusals::call_returned(w);
     }
-    let gain = comparisons::importance(loading::network_of(plan), place as usize, limit);
+    let gain = comparisons::importance(loading::network_of(plan, table), place as usize, limit);
     answers::put_answer(answer, gain.low, gain.high, gain.steps, gain.finished);
     0
 }
 
 #[no_mangle]
-pub extern "C" fn difference(first: &[u8], second: &[u8], limit: u64, answer: &mut [u8]) -> u64
-    ensures { λ r. ⌜ r ≡ differenceOutcome (now (first .entry)) (now (second .entry)) limit (now (answer .entry)) .returned ⌝ }
-    ensures { λ _. ⌜ now (answer .exit) ≡ differenceOutcome (now (first .entry)) (now (second .entry)) limit (now (answer .entry)) .buffer ⌝ }
+pub extern "C" fn difference(
+    first: &[u8],
+    second: &[u8],
+    table: &[u8],
+    limit: u64,
+    answer: &mut [u8],
+) -> u64
+    ensures { λ r. ⌜ r ≡ differenceOutcome (now (first .entry)) (now (second .entry)) (now (table .entry)) limit (now (answer .entry)) .returned ⌝ }
+    ensures { λ _. ⌜ now (answer .exit) ≡ differenceOutcome (now (first .entry)) (now (second .entry)) (now (table .entry)) limit (now (answer .entry)) .buffer ⌝ }
 {
-    let a = refusals::figure_verdict(first, limit, answer.len());
+    let a = refusals::figure_verdict(first, table, limit, answer.len());
     if let CallVerdict::Refused(_) = a {
         return refusals::call_returned(a);
     }
@@ -64,8 +76,8 @@ pub extern "C" fn difference(first: &[u8], second: &[u8], limit: u64, answer: &m
         return refusals::call_returned(b);
     }
     let d = comparisons::difference(
-        loading::network_of(first),
-        loading::network_of(second),
+        loading::network_of(first, table),
+        loading::network_of(second, table),
         limit,
     );
     answers::put_answer(answer, bits_of(d.low), bits_of(d.high), d.steps, d.finished);
@@ -75,14 +87,15 @@ pub extern "C" fn difference(first: &[u8], second: &[u8], limit: u64, answer: &m
 #[no_mangle]
 pub extern "C" fn sitting(
     plan: &[u8],
+    table: &[u8],
     limit: u64,
     saved: &[u8],
     answer: &mut [u8],
     work: &mut [u8],
 ) -> u64
-    ensures { λ r. ⌜ r ≡ sittingOutcome (now (plan .entry)) limit (now (saved .entry)) (now (answer .entry)) (now (work .entry)) .returned ⌝ }
-    ensures { λ _. ⌜ now (answer .exit) ≡ sittingOutcome (now (plan .entry)) limit (now (saved .entry)) (now (answer .entry)) (now (work .entry)) .answer ⌝ }
-    ensures { λ _. ⌜ now (work .exit) ≡ sittingOutcome (now (plan .entry)) limit (now (saved .entry)) (now (answer .entry)) (now (work .entry)) .work ⌝ }
+    ensures { λ r. ⌜ r ≡ sittingOutcome (now (plan .entry)) (now (table .entry)) limit (now (saved .entry)) (now (answer .entry)) (now (work .entry)) .returned ⌝ }
+    ensures { λ _. ⌜ now (answer .exit) ≡ sittingOutcome (now (plan .entry)) (now (table .entry)) limit (now (saved .entry)) (now (answer .entry)) (now (work .entry)) .answer ⌝ }
+    ensures { λ _. ⌜ now (work .exit) ≡ sittingOutcome (now (plan .entry)) (now (table .entry)) limit (now (saved .entry)) (now (answer .entry)) (now (work .entry)) .work ⌝ }
 {
-    sitting_desk::sitting(plan, limit, saved, answer, work)
+    sitting_desk::sitting(plan, table, limit, saved, answer, work)
 }

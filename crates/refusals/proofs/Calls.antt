@@ -111,6 +111,13 @@ figure-means plan table limit room =
     let e = also-means (asked limit room) (given plan table) in
     (λ h. let (x, y) = e .0 h in (a .0 x .0, a .0 x .1, g .0 y .0, g .0 y .1), λ h. e .1 (a .1 (h .0, h .1), g .1 (h .2, h .3)))
 
+-- as the calls' callees ask it
+pub figure-asks : (plan table : List ℕ) (limit room : ℕ) → figureVerdict plan table limit room ≡ Accepted
+    → (limit ≤ 1000000) × (16 ≤ room) × (verdict plan ≡ PlanAccepted) × AcceptedTable table
+figure-asks plan table limit room e =
+    let h = figure-means plan table limit room .0 e in
+    (h .0, h .1, accepted-means plan .1 (h .3), h .2)
+
 -- and of a sitting, but for its saved work: both buffers
 pub sitting-means : (plan table : List ℕ) (limit room work : ℕ)
     → sittingVerdict plan table limit room work ≡ Accepted ↔ (limit ≤ 1000000) × (16 ≤ room) × (776 ≤ work) × AcceptedTable table × WellFormed plan

@@ -20,7 +20,11 @@ pub fn saved_verdict(plan: &[u8], table: &[u8], saved: &[u8]) -> CallVerdict
         return CallVerdict::Accepted;
     }
     let row = saved::row_of(saved);
-    if tracing::traces(loading::network_of(plan, table), &row, saved::count_of(saved)) {
+    if tracing::traces(
+        loading::network_of(plan, table),
+        &row,
+        saved::count_of(saved),
+    ) {
         CallVerdict::Accepted
     } else {
         CallVerdict::Refused(CallCause::OpenSplit)

@@ -35,7 +35,14 @@ fn with_earlier(taken: u32, f: Figure) -> Figure
 }
 
 // Every cause of a sitting, in order.
-fn verdict_of(plan: &[u8], table: &[u8], limit: u64, saved: &[u8], room: usize, space: usize) -> CallVerdict
+fn verdict_of(
+    plan: &[u8],
+    table: &[u8],
+    limit: u64,
+    saved: &[u8],
+    room: usize,
+    space: usize,
+) -> CallVerdict
     ensures { λ r. ⌜ r ≡ verdictOf (now (plan .entry)) (now (table .entry)) limit (now (saved .entry)) room space ⌝ }
 {
     match refusals::sitting_verdict(plan, table, limit, room, space) {
@@ -87,7 +94,14 @@ fn carry_on(plan: &[u8], table: &[u8], limit: u64, saved: &[u8], answer: &mut [u
 }
 
 // Complete work is answered from its own bytes and written again.
-pub fn sitting(plan: &[u8], table: &[u8], limit: u64, saved: &[u8], answer: &mut [u8], work: &mut [u8]) -> u64
+pub fn sitting(
+    plan: &[u8],
+    table: &[u8],
+    limit: u64,
+    saved: &[u8],
+    answer: &mut [u8],
+    work: &mut [u8],
+) -> u64
     ensures { λ r. ⌜ r ≡ sittingOutcome (now (plan .entry)) (now (table .entry)) limit (now (saved .entry)) (now (answer .entry)) (now (work .entry)) .returned ⌝ }
     ensures { λ _. ⌜ now (answer .exit) ≡ sittingOutcome (now (plan .entry)) (now (table .entry)) limit (now (saved .entry)) (now (answer .entry)) (now (work .entry)) .answer ⌝ }
     ensures { λ _. ⌜ now (work .exit) ≡ sittingOutcome (now (plan .entry)) (now (table .entry)) limit (now (saved .entry)) (now (answer .entry)) (now (work .entry)) .work ⌝ }

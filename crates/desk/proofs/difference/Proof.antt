@@ -7,13 +7,14 @@ use lib.ListN.{length}
 use Rattle.reliability.specs.declared.Difference.{Difference}
 use Rattle.reliability.specs.Networks.{Network as Graph}
 use Rattle.reliability.specs.Comparisons.{difference}
+use Rattle.tables.specs.Tables.{rating, AcceptedTable}
 use Rattle.plan.specs.declared.Verdict.the-variants.{Accepted as PlanAccepted}
 use Rattle.plan.specs.Plans.{verdict, planOf}
 use Rattle.refusals.specs.declared.CallCause.{CallCause}
 use Rattle.refusals.specs.declared.CallVerdict.{CallVerdict}
 use Rattle.refusals.specs.declared.CallVerdict.the-variants.{Accepted, Refused}
-use Rattle.refusals.specs.Refusals.{callReturned, asked, planned, plannedSecond, also, figureVerdict, differenceVerdict}
-use Rattle.refusals.proofs.Calls.{asked-means, planned-means, second-means, also-means}
+use Rattle.refusals.specs.Refusals.{callReturned, plannedSecond, also, figureVerdict, differenceVerdict}
+use Rattle.refusals.proofs.Calls.{figure-asks, second-means, also-means}
 use Rattle.answers.specs.Answers.{answered}
 use Rattle.desk.specs.Outcomes.{twos, withDifference, differenceOutcome}
 use Rattle.desk.proofs.Answers.{refused, answers}
@@ -38,9 +39,9 @@ returns : tie.Need-returns
 unfolding differenceOutcome
 returns c =
     let v = c .before .before .before .figure-verdict in
-    let a = c .before .before .before .before .before .before .before .args in
-    let k = same-cause _ (figureVerdict (a .first .now) (a .limit) (length (a .answer .now))) (plannedSecond (verdict (a .second .now))) _ (v .ensures) (c .before .enum-told .given .1) in
-    let r = refused (differenceVerdict (a .first .now) (a .second .now) (a .limit) (length (a .answer .now))) (a .answer .now) (withDifference (difference (planOf (a .first .now)) (planOf (a .second .now)) (a .limit)) (a .answer .now)) _ (k .1) in
+    let a = c .before .before .before .before .before .before .before .before .args in
+    let k = same-cause _ (figureVerdict (a .first .now) (a .table .now) (a .limit) (length (a .answer .now))) (plannedSecond (verdict (a .second .now))) _ (v .ensures) (c .before .enum-told .given .1) in
+    let r = refused (differenceVerdict (a .first .now) (a .second .now) (a .table .now) (a .limit) (length (a .answer .now))) (a .answer .now) (withDifference (difference (planOf (rating (a .table .now)) (a .first .now)) (planOf (rating (a .table .now)) (a .second .now)) (a .limit)) (a .answer .now)) _ (k .1) in
     (c .call-returned .ensures ∙ ap callReturned (k .0) ∙ r .0, r .1)
 
 enum-told-2 : tie.Need-enum-told-2
@@ -55,41 +56,39 @@ enum-told-3 c = search needs
 call-returned-requires-2 : tie.Need-call-returned-requires-2
 call-returned-requires-2 c κs = search needs
 
-first-ok : (c : tie.After-enum-told2) → let a = c .before .before .before .before .before .before .args in figureVerdict (a .first .now) (a .limit) (length (a .answer .now)) ≡ Accepted
+first-ok : (c : tie.After-enum-told2) → let a = c .before .before .before .before .before .before .before .args in figureVerdict (a .first .now) (a .table .now) (a .limit) (length (a .answer .now)) ≡ Accepted
 first-ok c = sym (c .before .before .figure-verdict .ensures) ∙ c .enum-told2 .given .1
 
--- the limit and the buffer were accepted, and then the first plan
-asks : (c : tie.After-enum-told2) → let a = c .before .before .before .before .before .before .args in (a .limit ≤ 1000000) × (16 ≤ length (a .answer .now)) × (verdict (a .first .now) ≡ PlanAccepted)
+-- the limit, the buffer, the table and the first plan were accepted
+asks : (c : tie.After-enum-told2) → let a = c .before .before .before .before .before .before .before .args in (a .limit ≤ 1000000) × (16 ≤ length (a .answer .now)) × (verdict (a .first .now) ≡ PlanAccepted) × AcceptedTable (a .table .now)
 asks c =
-    let a = c .before .before .before .before .before .before .args in
-    let (x, y) = also-means (asked (a .limit) (length (a .answer .now))) (planned (verdict (a .first .now))) .0 (first-ok c) in
-    let (l, r) = asked-means (a .limit) (length (a .answer .now)) .0 x in
-    (l, r, planned-means (verdict (a .first .now)) .0 y)
+    let a = c .before .before .before .before .before .before .before .args in
+    figure-asks (a .first .now) (a .table .now) (a .limit) (length (a .answer .now)) (first-ok c)
 
-second-fine : (c : tie.After-enum-told4) → plannedSecond (verdict (c .before .before .before .before .before .before .before .before .before .args .second .now)) ≡ Accepted
+second-fine : (c : tie.After-enum-told4) → plannedSecond (verdict (c .before .before .before .before .before .before .before .before .before .before .args .second .now)) ≡ Accepted
 second-fine c = sym (c .before .before .second-verdict .ensures) ∙ c .enum-told4 .given .1
 
-second-ok : (c : tie.After-enum-told4) → verdict (c .before .before .before .before .before .before .before .before .before .args .second .now) ≡ PlanAccepted
-second-ok c = second-means (verdict (c .before .before .before .before .before .before .before .before .before .args .second .now)) .0 (second-fine c)
+second-ok : (c : tie.After-enum-told4) → verdict (c .before .before .before .before .before .before .before .before .before .before .args .second .now) ≡ PlanAccepted
+second-ok c = second-means (verdict (c .before .before .before .before .before .before .before .before .before .before .args .second .now)) .0 (second-fine c)
 
 returns-2 : tie.Need-returns-2
 unfolding differenceOutcome
 returns-2 c =
     let v = c .before .before .before .second-verdict in
-    let a = c .before .before .before .before .before .before .before .before .before .before .args in
+    let a = c .before .before .before .before .before .before .before .before .before .before .before .args in
     let e = ap (λ (u : CallVerdict). also u (plannedSecond (verdict (a .second .now)))) (first-ok (c .before .before .before .before)) in
-    let r = refused (differenceVerdict (a .first .now) (a .second .now) (a .limit) (length (a .answer .now))) (a .answer .now) (withDifference (difference (planOf (a .first .now)) (planOf (a .second .now)) (a .limit)) (a .answer .now)) _ (e ∙ sym (v .ensures) ∙ c .before .enum-told3 .given .1) in
+    let r = refused (differenceVerdict (a .first .now) (a .second .now) (a .table .now) (a .limit) (length (a .answer .now))) (a .answer .now) (withDifference (difference (planOf (rating (a .table .now)) (a .first .now)) (planOf (rating (a .table .now)) (a .second .now)) (a .limit)) (a .answer .now)) _ (e ∙ sym (v .ensures) ∙ c .before .enum-told3 .given .1) in
     (c .call-returned2 .ensures ∙ ap callReturned (v .ensures ∙ sym e) ∙ r .0, r .1)
 
 enum-told-4 : tie.Need-enum-told-4
 enum-told-4 c = search needs
 
 network-of-requires : tie.Need-network-of-requires
-network-of-requires c κs = asks (c .before .before .before) .2
+network-of-requires c κs = let k = asks (c .before .before .before) in (k .2, k .3)
 
 network-of-requires-2 : tie.Need-network-of-requires-2
 network-of-requires-2 c κs =
-    let f = asks (c .before .before .before .before) .2 in
+    let f = asks (c .before .before .before .before) in
     let s = second-ok (c .before) in
     search needs
 
@@ -113,11 +112,11 @@ same-length c = search needs
 returns-3 : tie.Need-returns-3
 unfolding differenceOutcome
 returns-3 c =
-    let a = c .before .before .before .before .before .before .before .before .before .before .before .before .before .before .before .before .before .before .before .before .args in
+    let a = c .before .before .before .before .before .before .before .before .before .before .before .before .before .before .before .before .before .before .before .before .before .args in
     let b = a .answer .now in
     let known = c .before .before .before .before .before .before .struct-told .given in
-    let ok = also-means (figureVerdict (a .first .now) (a .limit) (length (a .answer .now))) (plannedSecond (verdict (a .second .now))) .1 (first-ok (c .before .before .before .before .before .before .before .before .before .before .before .before .before .before), second-fine (c .before .before .before .before .before .before .before .before .before .before .before)) in
-    let e = answers (differenceVerdict (a .first .now) (a .second .now) (a .limit) (length (a .answer .now))) b (withDifference (difference (planOf (a .first .now)) (planOf (a .second .now)) (a .limit)) b) ok in
+    let ok = also-means (figureVerdict (a .first .now) (a .table .now) (a .limit) (length (a .answer .now))) (plannedSecond (verdict (a .second .now))) .1 (first-ok (c .before .before .before .before .before .before .before .before .before .before .before .before .before .before), second-fine (c .before .before .before .before .before .before .before .before .before .before .before)) in
+    let e = answers (differenceVerdict (a .first .now) (a .second .now) (a .table .now) (a .limit) (length (a .answer .now))) b (withDifference (difference (planOf (rating (a .table .now)) (a .first .now)) (planOf (rating (a .table .now)) (a .second .now)) (a .limit)) b) ok in
     let d = c .before .before .before .before .before .before .before .before .difference .ensures ∙ ap₂ (λ (g h : Graph). difference g h (a .limit)) (c .before .before .before .before .before .before .before .before .before .before .network-of .ensures .0) (c .before .before .before .before .before .before .before .before .before .network-of2 .ensures .0) in (
       e .0,
       c .before .before .put-answer .ensures

@@ -5,11 +5,12 @@ use lib.ListN.{length}
 use Rattle.reliability.specs.declared.Figure.{Figure}
 use Rattle.reliability.specs.Networks.{Network as Graph}
 use Rattle.reliability.specs.Rule.{figure}
+use Rattle.tables.specs.Tables.{rating, AcceptedTable}
 use Rattle.plan.specs.declared.Verdict.the-variants.{Accepted as PlanAccepted}
 use Rattle.plan.specs.Plans.{verdict, planOf}
 use Rattle.refusals.specs.declared.CallVerdict.the-variants.{Accepted}
-use Rattle.refusals.specs.Refusals.{callReturned, asked, planned, figureVerdict}
-use Rattle.refusals.proofs.Calls.{asked-means, planned-means, also-means}
+use Rattle.refusals.specs.Refusals.{callReturned, figureVerdict}
+use Rattle.refusals.proofs.Calls.{figure-asks}
 use Rattle.answers.specs.Answers.{withFigure}
 use Rattle.desk.specs.Outcomes.{figureOutcome}
 use Rattle.desk.proofs.Answers.{refused, answers}
@@ -30,26 +31,24 @@ returns : tie.Need-returns
 unfolding figureOutcome
 returns c =
     let v = c .before .before .before .figure-verdict in
-    let a = c .before .before .before .before .before .before .args in
-    let r = refused (figureVerdict (a .plan .now) (a .limit) (length (a .answer .now))) (a .answer .now) (withFigure (figure (planOf (a .plan .now)) (a .limit)) (a .answer .now)) _ (sym (v .ensures) ∙ c .before .enum-told .given .1) in
+    let a = c .before .before .before .before .before .before .before .args in
+    let r = refused (figureVerdict (a .plan .now) (a .table .now) (a .limit) (length (a .answer .now))) (a .answer .now) (withFigure (figure (planOf (rating (a .table .now)) (a .plan .now)) (a .limit)) (a .answer .now)) _ (sym (v .ensures) ∙ c .before .enum-told .given .1) in
     (c .call-returned .ensures ∙ ap callReturned (v .ensures) ∙ r .0, r .1)
 
 enum-told-2 : tie.Need-enum-told-2
 enum-told-2 c = search needs
 
-ok : (c : tie.After-enum-told2) → let a = c .before .before .before .before .before .args in figureVerdict (a .plan .now) (a .limit) (length (a .answer .now)) ≡ Accepted
+ok : (c : tie.After-enum-told2) → let a = c .before .before .before .before .before .before .args in figureVerdict (a .plan .now) (a .table .now) (a .limit) (length (a .answer .now)) ≡ Accepted
 ok c = sym (c .before .before .figure-verdict .ensures) ∙ c .enum-told2 .given .1
 
--- the limit and the buffer were accepted, and then the plan
-asks : (c : tie.After-enum-told2) → let a = c .before .before .before .before .before .args in (a .limit ≤ 1000000) × (16 ≤ length (a .answer .now)) × (verdict (a .plan .now) ≡ PlanAccepted)
+-- the limit, the buffer, the table and the plan were accepted
+asks : (c : tie.After-enum-told2) → let a = c .before .before .before .before .before .before .args in (a .limit ≤ 1000000) × (16 ≤ length (a .answer .now)) × (verdict (a .plan .now) ≡ PlanAccepted) × AcceptedTable (a .table .now)
 asks c =
-    let a = c .before .before .before .before .before .args in
-    let (x, y) = also-means (asked (a .limit) (length (a .answer .now))) (planned (verdict (a .plan .now))) .0 (ok c) in
-    let (l, r) = asked-means (a .limit) (length (a .answer .now)) .0 x in
-    (l, r, planned-means (verdict (a .plan .now)) .0 y)
+    let a = c .before .before .before .before .before .before .args in
+    figure-asks (a .plan .now) (a .table .now) (a .limit) (length (a .answer .now)) (ok c)
 
 network-of-requires : tie.Need-network-of-requires
-network-of-requires c κs = asks c .2
+network-of-requires c κs = (asks c .2, asks c .3)
 
 work-requires : tie.Need-work-requires
 work-requires c κs =
@@ -65,9 +64,9 @@ same-length c = search needs
 returns-2 : tie.Need-returns-2
 unfolding figureOutcome
 returns-2 c =
-    let a = c .before .before .before .before .before .before .before .before .before .before .before .args in
+    let a = c .before .before .before .before .before .before .before .before .before .before .before .before .args in
     let b = a .answer .now in
-    let e = answers (figureVerdict (a .plan .now) (a .limit) (length (a .answer .now))) b (withFigure (figure (planOf (a .plan .now)) (a .limit)) b) (ok (c .before .before .before .before .before .before)) in (
+    let e = answers (figureVerdict (a .plan .now) (a .table .now) (a .limit) (length (a .answer .now))) b (withFigure (figure (planOf (rating (a .table .now)) (a .plan .now)) (a .limit)) b) (ok (c .before .before .before .before .before .before)) in (
       e .0,
       c .before .before .put-answer .ensures ∙ ap (λ (f : Figure). withFigure f b) (c .before .before .before .before .work .ensures ∙ ap (λ (h : Graph). figure h (a .limit)) (c .before .before .before .before .before .network-of .ensures .0)) ∙ e .1,
     )

@@ -4,13 +4,14 @@ use native.Mathlib.Omega.{arith}
 use lib.ListN.{length}
 use Rattle.reliability.specs.declared.Figure.{Figure}
 use Rattle.reliability.specs.Comparisons.{importance}
+use Rattle.tables.specs.Tables.{rating, AcceptedTable}
 use Rattle.plan.specs.declared.Verdict.the-variants.{Accepted as PlanAccepted}
 use Rattle.plan.specs.Plans.{sizeM, verdict, planOf}
 use Rattle.network.proofs.Picks.{built-used}
 use Rattle.loading.proofs.Stands.{stands-importance}
 use Rattle.refusals.specs.declared.CallVerdict.the-variants.{Accepted}
-use Rattle.refusals.specs.Refusals.{callReturned, asked, planned, placed, figureVerdict, importanceVerdict}
-use Rattle.refusals.proofs.Calls.{asked-means, planned-means, placed-means, also-means}
+use Rattle.refusals.specs.Refusals.{callReturned, placed, figureVerdict, importanceVerdict}
+use Rattle.refusals.proofs.Calls.{figure-asks, placed-means, also-means}
 use Rattle.answers.specs.Answers.{withFigure}
 use Rattle.desk.specs.Outcomes.{importanceOutcome}
 use Rattle.desk.proofs.Answers.{refused, answers}
@@ -31,34 +32,33 @@ returns : tie.Need-returns
 unfolding importanceOutcome
 returns c =
     let v = c .before .before .before .importance-verdict in
-    let a = c .before .before .before .before .before .before .args in
-    let r = refused (importanceVerdict (a .plan .now) (a .place) (a .limit) (length (a .answer .now))) (a .answer .now) (withFigure (importance (planOf (a .plan .now)) (a .place) (a .limit)) (a .answer .now)) _ (sym (v .ensures) ∙ c .before .enum-told .given .1) in
+    let a = c .before .before .before .before .before .before .before .args in
+    let r = refused (importanceVerdict (a .plan .now) (a .table .now) (a .place) (a .limit) (length (a .answer .now))) (a .answer .now) (withFigure (importance (planOf (rating (a .table .now)) (a .plan .now)) (a .place) (a .limit)) (a .answer .now)) _ (sym (v .ensures) ∙ c .before .enum-told .given .1) in
     (c .call-returned .ensures ∙ ap callReturned (v .ensures) ∙ r .0, r .1)
 
 enum-told-2 : tie.Need-enum-told-2
 enum-told-2 c = search needs
 
-ok : (c : tie.After-enum-told2) → let a = c .before .before .before .before .before .args in importanceVerdict (a .plan .now) (a .place) (a .limit) (length (a .answer .now)) ≡ Accepted
+ok : (c : tie.After-enum-told2) → let a = c .before .before .before .before .before .before .args in importanceVerdict (a .plan .now) (a .table .now) (a .place) (a .limit) (length (a .answer .now)) ≡ Accepted
 ok c = sym (c .before .before .importance-verdict .ensures) ∙ c .enum-told2 .given .1
 
--- the limit and the buffer were accepted, and then the plan
-asks : (c : tie.After-enum-told2) → let a = c .before .before .before .before .before .args in (a .limit ≤ 1000000) × (16 ≤ length (a .answer .now)) × (verdict (a .plan .now) ≡ PlanAccepted) × (a .place < sizeM (a .plan .now))
+-- the limit, the buffer, the table and the plan were accepted, and then the place
+asks : (c : tie.After-enum-told2) → let a = c .before .before .before .before .before .before .args in (a .limit ≤ 1000000) × (16 ≤ length (a .answer .now)) × (verdict (a .plan .now) ≡ PlanAccepted) × AcceptedTable (a .table .now) × (a .place < sizeM (a .plan .now))
 asks c =
-    let a = c .before .before .before .before .before .args in
-    let (w, z) = also-means (figureVerdict (a .plan .now) (a .limit) (length (a .answer .now))) (placed (a .plan .now) (a .place)) .0 (ok c) in
-    let (x, y) = also-means (asked (a .limit) (length (a .answer .now))) (planned (verdict (a .plan .now))) .0 w in
-    let (l, r) = asked-means (a .limit) (length (a .answer .now)) .0 x in
-    (l, r, planned-means (verdict (a .plan .now)) .0 y, placed-means (a .plan .now) (a .place) .0 z)
+    let a = c .before .before .before .before .before .before .args in
+    let (w, z) = also-means (figureVerdict (a .plan .now) (a .table .now) (a .limit) (length (a .answer .now))) (placed (a .plan .now) (a .place)) .0 (ok c) in
+    let (l, r, p, t) = figure-asks (a .plan .now) (a .table .now) (a .limit) (length (a .answer .now)) w in
+    (l, r, p, t, placed-means (a .plan .now) (a .place) .0 z)
 
 network-of-requires : tie.Need-network-of-requires
-network-of-requires c κs = asks c .2
+network-of-requires c κs = (asks c .2, asks c .3)
 
 importance-requires : tie.Need-importance-requires
 importance-requires c κs =
     let k = asks (c .before) in
-    let a = c .before .before .before .before .before .before .args in
+    let a = c .before .before .before .before .before .before .before .args in
     let at = built-used (c .network-of .result) (sizeM (a .plan .now)) (c .network-of .ensures .1) in
-    let within = k .3 in
+    let within = k .4 in
     let some : 0 < sizeM (a .plan .now) = omega arith in
     (c .network-of .ensures .2, search at, omega (arith, k .0))
 
@@ -71,13 +71,13 @@ same-length c = search needs
 returns-2 : tie.Need-returns-2
 unfolding importanceOutcome
 returns-2 c =
-    let a = c .before .before .before .before .before .before .before .before .before .before .before .args in
+    let a = c .before .before .before .before .before .before .before .before .before .before .before .before .args in
     let b = a .answer .now in
     let n = c .before .before .before .before .before .network-of in
-    let e = answers (importanceVerdict (a .plan .now) (a .place) (a .limit) (length (a .answer .now))) b (withFigure (importance (planOf (a .plan .now)) (a .place) (a .limit)) b) (ok (c .before .before .before .before .before .before)) in (
+    let e = answers (importanceVerdict (a .plan .now) (a .table .now) (a .place) (a .limit) (length (a .answer .now))) b (withFigure (importance (planOf (rating (a .table .now)) (a .plan .now)) (a .place) (a .limit)) b) (ok (c .before .before .before .before .before .before)) in (
       e .0,
       c .before .before .put-answer .ensures
-          ∙ ap (λ (f : Figure). withFigure f b) (c .before .before .before .before .importance .ensures ∙ stands-importance (a .plan .now) (n .result) (n .ensures .0) (n .ensures .1) (a .place) (asks (c .before .before .before .before .before .before) .3) (a .limit))
+          ∙ ap (λ (f : Figure). withFigure f b) (c .before .before .before .before .importance .ensures ∙ stands-importance (planOf (rating (a .table .now)) (a .plan .now)) (a .plan .now) (n .result) (n .ensures .0) (n .ensures .1) (a .place) (asks (c .before .before .before .before .before .before) .4) (a .limit))
           ∙ e .1,
     )
 
