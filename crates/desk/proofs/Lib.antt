@@ -1,5 +1,6 @@
 pub mod TwosComplement
 pub mod Answers
+pub mod BuiltIn
 pub mod Demands
 pub mod Importances
 pub mod Differences
