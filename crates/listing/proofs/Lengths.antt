@@ -7,6 +7,7 @@ use native.Mathlib.Omega.{arith}
 use lib.ListN.{length, length-append, drop}
 use lib.Seq.{length-sets, sets-eq}
 use Rattle.lines.specs.Lines.{Puts}
+use Rattle.ratings.specs.Ratings.{T}
 use Rattle.reliability.specs.Networks.{piecesOf}
 use Rattle.reliability.specs.Rule.{figure}
 use Rattle.reliability.specs.Comparisons.{importance}
@@ -39,7 +40,7 @@ length-links : (plan : List ℕ) (i k : ℕ) → length (linkLines plan i k) ≤
 unfolding linkLines
 length-links plan i zero = omega arith
 length-links plan i (suc k) =
-    omega (arith, length-append (lineOf plan i) (linkLines plan (suc i) k), length-link i (linkIn plan i) (importance (planOf plan) i importanceLimit), length-links plan (suc i) k)
+    omega (arith, length-append (lineOf plan i) (linkLines plan (suc i) k), length-link i (linkIn T plan i) (importance (planOf T plan) i importanceLimit), length-links plan (suc i) k)
 
 -- ---- the whole listing
 
@@ -51,8 +52,8 @@ module _ (plan : List ℕ) where
   pub length-listing : (v : Verdict) → verdict plan ≡ v → length (listingBy v plan) ≤ most
   length-listing Accepted e =
       let w = accepted-means plan .0 e in
-      let f = figure (planOf plan) figureLimit in
-      let k = piecesOf (planOf plan) in
+      let f = figure (planOf T plan) figureLimit in
+      let k = piecesOf (planOf T plan) in
       let s = sizesLine (sizeN plan) (sizeM plan) k in
       let l = linkLines plan 0 (sizeM plan) in
       omega (arith, length-append (s ++ figureLine f ++ l) limitsLine, length-append (s ++ figureLine f) l, length-append s (figureLine f), length-sizes (sizeN plan) (sizeM plan) k, length-figure f, length-links plan 0 (sizeM plan), length-limits, w .links)

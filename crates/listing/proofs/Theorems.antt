@@ -9,6 +9,8 @@ use lib.Dec.{eqb, ltb}
 use lib.ListN.{length, getD, take}
 use lib.Seq.{take-all, length-take-le, getD-take}
 use borrow.Author.Tests.{le-ltb, ltb-false, ne-eqb}
+use Rattle.ratings.specs.Ratings.{T}
+use Rattle.ratings.proofs.Laws.{built-in-range}
 use Rattle.reliability.specs.declared.Figure.{Figure}
 use Rattle.reliability.specs.Networks.{Network, linkAt, piecesOf}
 use Rattle.reliability.specs.Rule.{isLoop, bounded, figure}
@@ -83,7 +85,7 @@ kept-at-most false n = omega arith
 
 module _ (plan : List ℕ) (accepted : verdict plan ≡ Accepted) (i : ℕ) (place : i < sizeM plan) where
   abbrev g : Network
-  g = planOf plan
+  g = planOf T plan
 
   abbrev f : Figure
   f = importance g i importanceLimit
@@ -91,12 +93,12 @@ module _ (plan : List ℕ) (accepted : verdict plan ≡ Accepted) (i : ℕ) (pla
   -- a finished importance is no wider than this, so one that is wider is not finished
   pub listed-importance-width : f .finished ≡ true → f .high ≤ f .low + importanceWidth plan
   listed-importance-width done =
-      let present : i < length (g .links) = omega (arith, place, plan-links plan) in
-      let w = importance-width g (plan-valid plan accepted) i present importanceLimit (plan-enclosed plan) done in
-      omega (arith, w, plan-links plan, plan-nodes plan, others-units plan i, others-few plan i, kept-at-most (isLoop (linkAt g i)) (length (g .nodes)))
+      let present : i < length (g .links) = omega (arith, place, plan-links T plan) in
+      let w = importance-width g (plan-valid T plan built-in-range accepted) i present importanceLimit (plan-enclosed plan T built-in-range) done in
+      omega (arith, w, plan-links T plan, plan-nodes T plan, others-units plan i, others-few plan i, kept-at-most (isLoop (linkAt g i)) (length (g .nodes)))
 
 -- ---- several pieces
 
 -- the figure of a plan that lies in several pieces is 0, finished without a split
-pub listed-separate : (plan : List ℕ) → verdict plan ≡ Accepted → 1 < piecesOf (planOf plan) → figure (planOf plan) figureLimit ≡ bounded (λ d. 0) 0 true
-listed-separate plan accepted several = separate-figure (planOf plan) (plan-valid plan accepted) several figureLimit
+pub listed-separate : (plan : List ℕ) → verdict plan ≡ Accepted → 1 < piecesOf (planOf T plan) → figure (planOf T plan) figureLimit ≡ bounded (λ d. 0) 0 true
+listed-separate plan accepted several = separate-figure (planOf T plan) (plan-valid T plan built-in-range accepted) several figureLimit

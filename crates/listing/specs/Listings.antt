@@ -3,6 +3,7 @@ use Prim.Native.Nat.{ℕ, zero, suc, _+_, _*_}
 use mathlib.Core.Path.{_≡_}
 use mathlib.Core.List.{List, [], _++_}
 use lib.ListN.{length, take, drop}
+use Rattle.ratings.specs.Ratings.{T}
 use Rattle.reliability.specs.Networks.{piecesOf}
 use Rattle.reliability.specs.Rule.{figure}
 use Rattle.plan.specs.declared.Verdict.{Verdict}
@@ -18,10 +19,10 @@ unfoldable pub linkLines : List ℕ → ℕ → ℕ → List ℕ
 linkLines plan i zero = []
 linkLines plan i (suc k) = lineOf plan i ++ linkLines plan (suc i) k
 
--- ---- the listing
+-- ---- the listing, by the built-in table
 
 abbrev pub listingBy : Verdict → List ℕ → List ℕ
-listingBy Accepted plan = sizesLine (sizeN plan) (sizeM plan) (piecesOf (planOf plan)) ++ figureLine (figure (planOf plan) figureLimit) ++ linkLines plan 0 (sizeM plan) ++ limitsLine
+listingBy Accepted plan = sizesLine (sizeN plan) (sizeM plan) (piecesOf (planOf T plan)) ++ figureLine (figure (planOf T plan) figureLimit) ++ linkLines plan 0 (sizeM plan) ++ limitsLine
 listingBy (Refused c) plan = refusedLine c
 
 unfoldable pub listing : List ℕ → List ℕ

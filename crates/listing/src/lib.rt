@@ -31,7 +31,7 @@ fn put_plan(text: &mut [u8], plan: &[u8]) -> usize
     ensures { λ r. ⌜ Puts (now (text .entry)) 0 (listingBy Verdict.Accepted (now (plan .entry))) (now (text .exit)) r ⌝ }
 {
     let s = reader::sizes_of(plan);
-    let net = loading::network_of(plan);
+    let net = loading::built_in(plan);
     let k = steps::pieces(net);
     let f = factoring::work(net, listing_lines::FIGURE_LIMIT);
     let first = listing_lines::put_sizes(text, s.n, s.m, k);

@@ -3,6 +3,7 @@ use Prim.Native.Nat.{ℕ}
 use mathlib.Core.List.{List, [], _∷_}
 use mathlib.Core.Bool.{cond}
 use Rattle.lines.specs.Lines.{text, filled}
+use Rattle.ratings.specs.Ratings.{T}
 use Rattle.reliability.specs.declared.Link.{Link}
 use Rattle.reliability.specs.declared.Figure.{Figure}
 use Rattle.reliability.specs.Comparisons.{importance}
@@ -32,9 +33,9 @@ figureLine f = filled (f .low ∷ f .high ∷ f .steps ∷ cond (f .finished) 1 
 abbrev pub linkLine : ℕ → Link → Figure → List ℕ
 linkLine i e f = filled (i ∷ e .a ∷ e .b ∷ e .low ∷ f .low ∷ f .high ∷ []) (text "link 0 1 2 3 4 5\n")
 
--- the line of link i of a plan
+-- the line of link i of a plan, by the built-in table
 abbrev pub lineOf : List ℕ → ℕ → List ℕ
-lineOf plan i = linkLine i (linkIn plan i) (importance (planOf plan) i importanceLimit)
+lineOf plan i = linkLine i (linkIn T plan i) (importance (planOf T plan) i importanceLimit)
 
 -- both limits
 abbrev pub limitsLine : List ℕ

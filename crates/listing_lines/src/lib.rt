@@ -45,8 +45,9 @@ pub fn put_link(text: &mut [u8], at: usize, plan: &[u8], i: usize) -> usize
     requires { ⌜ (verdict (now plan) ≡ Verdict.Accepted) × (i < sizeM (now plan)) × (at + length (lineOf (now plan) i) ≤ length (now text)) ⌝ }
     ensures { λ r. ⌜ Puts (now (text .entry)) at (lineOf (now (plan .entry)) i) (now (text .exit)) r ⌝ }
 {
-    let e = plan::link_at(plan, i);
-    let f = comparisons::importance(loading::network_of(plan), i, IMPORTANCE_LIMIT);
+    let net = loading::built_in(plan);
+    let e = net.link(i);
+    let f = comparisons::importance(net, i, IMPORTANCE_LIMIT);
     lines::put_line(
         text,
         at,

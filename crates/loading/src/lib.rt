@@ -3,6 +3,7 @@ use network::Network;
 use plan::Verdict;
 ghost use mathlib.Core.Path.{_≡_};
 ghost use Rattle.reader.specs.Layout.{sizeM};
+ghost use Rattle.ratings.specs.Ratings.{T};
 ghost use Rattle.tables.specs.Tables.{rating, AcceptedTable};
 ghost use Rattle.plan.specs.Plans.{verdict, planOf};
 ghost use Rattle.network.specs.Places.{networkOf, Built, Invariant};
@@ -22,4 +23,12 @@ pub fn network_of(plan: &[u8], table: &[u8]) -> Network
         i += 1;
     }
     net
+}
+
+// The same under the built-in table.
+pub fn built_in(plan: &[u8]) -> Network
+    requires { ⌜ verdict (now plan) ≡ Verdict.Accepted ⌝ }
+    ensures { λ r. ⌜ (networkOf r ≡ planOf T (now (plan .entry))) × Built r (sizeM (now (plan .entry))) × Invariant r ⌝ }
+{
+    network_of(plan, b"")
 }

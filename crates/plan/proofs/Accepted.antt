@@ -39,9 +39,11 @@ module _ (rating : ℕ → ℕ) (b : List ℕ) where
   pub plan-nodes : length (planOf rating b .nodes) ≡ sizeN b
   plan-nodes = length-from 0 (sizeN b)
 
-  -- the ends of a link are those of the file
+  -- link i
+  pub plan-link : (i : ℕ) → i < sizeM b → linkAt (planOf rating b) i ≡ linkIn rating b i
+  plan-link i h = rw (zero-add i) at (at-place (linkIn rating b) (linked 0 0 (λ d. 0)) 0 (sizeM b) i h)
+
+  -- its ends are those of the file
   pub plan-ends : (i : ℕ) → i < sizeM b → (linkAt (planOf rating b) i .a ≡ firstEnd b i) × (linkAt (planOf rating b) i .b ≡ secondEnd b i)
   unfolding linkIn
-  plan-ends i h =
-      let e = rw (zero-add i) at (at-place (linkIn rating b) (linked 0 0 (λ d. 0)) 0 (sizeM b) i h) in
-      (ap (λ (l : Link). l .a) e, ap (λ (l : Link). l .b) e)
+  plan-ends i h = let e = plan-link i h in (ap (λ (l : Link). l .a) e, ap (λ (l : Link). l .b) e)

@@ -4,6 +4,7 @@ use mathlib.Core.List.{List, [], _++_, append-assoc, append-nil}
 use native.Mathlib.Omega.{arith}
 use lib.ListN.{length}
 use lib.Seq.{sets}
+use Rattle.ratings.specs.Ratings.{T}
 use Rattle.reliability.specs.declared.Figure.{Figure}
 use Rattle.reliability.specs.Networks.{Network as Graph, piecesOf}
 use Rattle.reliability.specs.Rule.{figure}
@@ -23,7 +24,6 @@ use Rattle.listing_lines.proofs.put_figure.Reads as put-figure-reads
 use Rattle.listing_lines.proofs.put_limits.Reads as put-limits-reads
 use Rattle.listing.proofs.put_links.Reads as put-links-reads
 use Rattle.listing_lines.proofs.put_sizes.Reads as put-sizes-reads
-use Rattle.loading.proofs.network_of.Reads as network-of-reads
 use Rattle.reader.proofs.sizes_of.Reads as sizes-of-reads
 use Rattle.steps.proofs.pieces.Reads as pieces-reads
 
@@ -39,21 +39,21 @@ fits c = omega (arith, c .pre .1)
 sizes-of-requires : tie.Need-sizes-of-requires
 sizes-of-requires c κs = let w = accepted-means (c .before .before .args .plan .now) .0 (c .before .before .pre .0) in omega (arith, w .whole)
 
-network-of-requires : tie.Need-network-of-requires
-network-of-requires c κs = search needs
+built-in-requires : tie.Need-built-in-requires
+built-in-requires c κs = search needs
 
 pieces-requires : tie.Need-pieces-requires
-pieces-requires c κs = c .network-of .ensures .2
+pieces-requires c κs = c .built-in .ensures .2
 
 work-requires : tie.Need-work-requires
-work-requires c κs = (c .before .network-of .ensures .2, omega arith)
+work-requires c κs = (c .before .built-in .ensures .2, omega arith)
 
 -- the parts
 abbrev sizes : List ℕ → List ℕ
-sizes plan = sizesLine (sizeN plan) (sizeM plan) (piecesOf (planOf plan))
+sizes plan = sizesLine (sizeN plan) (sizeM plan) (piecesOf (planOf T plan))
 
 abbrev pair : List ℕ → List ℕ
-pair plan = figureLine (figure (planOf plan) figureLimit)
+pair plan = figureLine (figure (planOf T plan) figureLimit)
 
 abbrev links : List ℕ → List ℕ
 links plan = linkLines plan 0 (sizeM plan)
@@ -75,15 +75,15 @@ sizes-next : (c : tie.After-work) → let b = start c .args .plan .now in listin
 sizes-next c =
     let b = start c .args .plan .now in
     let (n, m) = c .before .before .before .sizes-of .ensures in
-    let k : c .before .pieces .result ≡ piecesOf (planOf b) = c .before .pieces .ensures ∙ ap piecesOf (c .before .before .network-of .ensures .0) in
+    let k : c .before .pieces .result ≡ piecesOf (planOf T b) = c .before .pieces .ensures ∙ ap piecesOf (c .before .before .built-in .ensures .0) in
     let e : first c ≡ sizes b = cc in
     parted b ∙ ap (λ (s : List ℕ). s ++ (pair b ++ later b)) (sym e)
 
 figure-next : (c : tie.After-work) → let b = start c .args .plan .now in pair b ++ later b ≡ figureLine (c .work .result) ++ later b
 figure-next c =
     let b = start c .args .plan .now in
-    let worked : c .work .result ≡ figure (networkOf (c .before .before .network-of .result)) figureLimit = c .work .ensures in
-    ap (λ (f : Figure). figureLine f ++ later b) (sym (worked ∙ ap (λ (g : Graph). figure g figureLimit) (c .before .before .network-of .ensures .0)))
+    let worked : c .work .result ≡ figure (networkOf (c .before .before .built-in .result)) figureLimit = c .work .ensures in
+    ap (λ (f : Figure). figureLine f ++ later b) (sym (worked ∙ ap (λ (g : Graph). figure g figureLimit) (c .before .before .built-in .ensures .0)))
 
 sized : (c : tie.After-put-sizes) → let a = start (c .before .before) .args in Left (a .plan .now) (a .text .now) (c .put-sizes .last .0) (c .put-sizes .result) (pair (a .plan .now) ++ later (a .plan .now))
 sized c =
@@ -142,7 +142,7 @@ put-plan-spec =
     tie.close
     (tie.spec
     sizes-of-requires
-    network-of-requires
+    built-in-requires
     pieces-requires
     work-requires
     put-sizes-requires

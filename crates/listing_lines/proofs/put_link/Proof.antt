@@ -3,37 +3,34 @@ use mathlib.Core.Path.{_≡_, sym, ap₂, _∙_, subst}
 use mathlib.Core.List.{List}
 use native.Mathlib.Omega.{arith}
 use lib.ListN.{length}
+use Rattle.ratings.specs.Ratings.{T}
 use Rattle.reliability.specs.declared.Link.{Link}
 use Rattle.reliability.specs.declared.Figure.{Figure}
 use Rattle.reliability.specs.Comparisons.{importance}
 use Rattle.network.specs.Places.{networkOf, indexOf}
-use Rattle.plan.specs.Plans.{sizeM}
+use Rattle.plan.specs.Plans.{sizeM, planOf}
 use Rattle.plan.proofs.Verdicts.{accepted-means}
-use Rattle.loading.proofs.Stands.{stands-importance}
+use Rattle.loading.proofs.Stands.{stands-importance, stands-link}
 use Rattle.network.proofs.Picks.{built-used}
 use Rattle.listing_lines.specs.Entries.{importanceLimit, linkLine, lineOf}
 use Rattle.lines.specs.Lines.{Puts}
 use borrow.Author.Needs.{needs}
 use Rattle.listing_lines.proofs.put_link.Statement.{statement}
 use Rattle.listing_lines.proofs.put_link.Tie as tie
-use Rattle.listing_lines.proofs.put_link.Reads as reads
-use Rattle.listing_lines.proofs.put_link.Lts as lts
-use Rattle.comparisons.proofs.importance.Reads as importance-reads
-use Rattle.lines.proofs.put_line.Reads as put-line-reads
-use Rattle.plan.proofs.link_at.Reads as link-at-reads
-use Rattle.loading.proofs.network_of.Reads as network-of-reads
 
-link-at-requires : tie.Need-link-at-requires
-link-at-requires c κs = search needs
+built-in-requires : tie.Need-built-in-requires
+built-in-requires c κs = search needs
 
-network-of-requires : tie.Need-network-of-requires
-network-of-requires c κs = search needs
+link-requires : tie.Need-link-requires
+link-requires c κs =
+    let n = c .built-in in
+    built-used (n .result) (sizeM (c .before .before .before .args .plan .now)) (n .ensures .1) (c .before .before .before .args .i) (c .before .before .before .pre .1)
 
 importance-requires : tie.Need-importance-requires
 importance-requires c κs =
     let a = c .before .before .before .before .args in
     let k = c .before .before .before .before .pre in
-    let n = c .network-of in
+    let n = c .before .built-in in
     (n .ensures .2, built-used (n .result) (sizeM (a .plan .now)) (n .ensures .1) (a .i) (k .1), omega arith)
 
 slice-aggregate-put-line : tie.Need-slice-aggregate-put-line
@@ -54,12 +51,14 @@ cast-t16 c = search needs
 slice-aggregate-put-line-2 : tie.Need-slice-aggregate-put-line-2
 slice-aggregate-put-line-2 c = search needs
 
-line : (c : tie.After-importance) → let a = c .before .before .before .before .before .args in linkLine (a .i) (c .before .before .link-at .result) (c .importance .result) ≡ lineOf (a .plan .now) (a .i)
+line : (c : tie.After-importance) → let a = c .before .before .before .before .before .args in linkLine (a .i) (c .before .link .result) (c .importance .result) ≡ lineOf (a .plan .now) (a .i)
 line c =
     let a = c .before .before .before .before .before .args in
-    let n = c .before .network-of in
+    let n = c .before .before .built-in in
     let worked : c .importance .result ≡ importance (networkOf (n .result)) (indexOf (n .result) (a .i)) importanceLimit = c .importance .ensures in
-    ap₂ (λ (e : Link) (f : Figure). linkLine (a .i) e f) (c .before .before .link-at .ensures) (worked ∙ stands-importance (a .plan .now) (n .result) (n .ensures .0) (n .ensures .1) (a .i) (c .before .before .before .before .before .pre .1) importanceLimit)
+    let place = c .before .before .before .before .before .pre .1 in
+    ap₂ (λ (e : Link) (f : Figure). linkLine (a .i) e f) (c .before .link .ensures ∙ stands-link T (a .plan .now) (n .result) (n .ensures .0) (n .ensures .1) (a .i) place)
+    (worked ∙ stands-importance (planOf T (a .plan .now)) (a .plan .now) (n .result) (n .ensures .0) (n .ensures .1) (a .i) place importanceLimit)
 
 returns : tie.Need-returns
 returns c =
@@ -81,8 +80,8 @@ pub put-link-spec : {M : Type 1} → statement M
 put-link-spec =
     tie.close
     (tie.spec
-    link-at-requires
-    network-of-requires
+    built-in-requires
+    link-requires
     importance-requires
     slice-aggregate-put-line
     cast-t14
