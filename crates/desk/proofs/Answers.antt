@@ -21,11 +21,11 @@ use Rattle.plan.proofs.Verdicts.{accepted-means}
 use Rattle.plan.specs.Weights.{weightsOf, exactOf}
 use Rattle.plan.proofs.Accepted.{plan-valid, plan-links, plan-nodes}
 use Rattle.plan.proofs.Weights.{unitsIn, plan-units, plan-total}
-use Rattle.refusals.specs.declared.CallCause.{CallCause}
-use Rattle.refusals.specs.declared.CallVerdict.{CallVerdict}
-use Rattle.refusals.specs.declared.CallVerdict.the-variants.{Accepted, Refused}
-use Rattle.refusals.specs.Refusals.{callReturned}
-use Rattle.refusals.proofs.Calls.{call-number-range, zero-accepted}
+use Rattle.causes.specs.declared.CallCause.{CallCause}
+use Rattle.causes.specs.declared.CallVerdict.{CallVerdict}
+use Rattle.causes.specs.declared.CallVerdict.the-variants.{Accepted, Refused}
+use Rattle.causes.specs.Causes.{callReturned}
+use Rattle.causes.proofs.Laws.{call-number-range, zero-accepted}
 use Rattle.answers.specs.Answers.{withFigure, Holds}
 use Rattle.answers.proofs.Laws.{written}
 use Rattle.desk.specs.Outcomes.{twos, Outcome, unless}

@@ -16,9 +16,10 @@ use Rattle.tables.proofs.Theorems.{rating-range}
 use Rattle.plan.specs.Plans.{WellFormed, verdict, planOf}
 use Rattle.plan.proofs.Verdicts.{accepted-means, zero-means}
 use Rattle.plan.proofs.Weights.{plan-enclosed, plan-lengths}
-use Rattle.refusals.specs.declared.CallVerdict.{CallVerdict}
-use Rattle.refusals.specs.declared.CallVerdict.the-variants.{Accepted}
-use Rattle.refusals.specs.Refusals.{callReturned, figureVerdict}
+use Rattle.causes.specs.declared.CallVerdict.{CallVerdict}
+use Rattle.causes.specs.declared.CallVerdict.the-variants.{Accepted}
+use Rattle.causes.specs.Causes.{callReturned}
+use Rattle.refusals.specs.Refusals.{figureVerdict}
 use Rattle.refusals.proofs.Calls.{figure-means}
 use Rattle.answers.specs.Answers.{withFigure, lowIn, highIn, stepsIn, finishedIn, Holds}
 use Rattle.desk.specs.Outcomes.{Outcome, checkOutcome, figureOutcome}

@@ -25,9 +25,10 @@ use Rattle.plan.proofs.Verdicts.{accepted-means}
 use Rattle.plan.specs.Weights.{exactOf, lengths}
 use Rattle.plan.proofs.Accepted.{plan-links, plan-nodes}
 use Rattle.plan.proofs.Weights.{plan-enclosed, plan-units, plan-total}
-use Rattle.refusals.specs.declared.CallVerdict.{CallVerdict}
-use Rattle.refusals.specs.declared.CallVerdict.the-variants.{Accepted}
-use Rattle.refusals.specs.Refusals.{callReturned, plannedSecond, figureVerdict, differenceVerdict}
+use Rattle.causes.specs.declared.CallVerdict.{CallVerdict}
+use Rattle.causes.specs.declared.CallVerdict.the-variants.{Accepted}
+use Rattle.causes.specs.Causes.{callReturned}
+use Rattle.refusals.specs.Refusals.{plannedSecond, figureVerdict, differenceVerdict}
 use Rattle.refusals.proofs.Calls.{figure-means, also-means, second-means}
 use Rattle.desk.specs.Outcomes.{twos, withDifference, Outcome, differenceOutcome}
 use Rattle.answers.specs.Answers.{lowIn, highIn, stepsIn, finishedIn}

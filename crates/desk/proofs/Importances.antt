@@ -21,9 +21,10 @@ use Rattle.plan.specs.Plans.{WellFormed, planOf}
 use Rattle.plan.specs.Weights.{weightsOf, otherLengths}
 use Rattle.plan.proofs.Accepted.{plan-links, plan-nodes, plan-ends}
 use Rattle.plan.proofs.Weights.{plan-enclosed, others-units, others-total}
-use Rattle.refusals.specs.declared.CallVerdict.{CallVerdict}
-use Rattle.refusals.specs.declared.CallVerdict.the-variants.{Accepted}
-use Rattle.refusals.specs.Refusals.{callReturned, placed, figureVerdict, importanceVerdict}
+use Rattle.causes.specs.declared.CallVerdict.{CallVerdict}
+use Rattle.causes.specs.declared.CallVerdict.the-variants.{Accepted}
+use Rattle.causes.specs.Causes.{callReturned}
+use Rattle.refusals.specs.Refusals.{placed, figureVerdict, importanceVerdict}
 use Rattle.refusals.proofs.Calls.{figure-means, also-means, placed-means}
 use Rattle.answers.specs.Answers.{withFigure, lowIn, highIn, stepsIn, finishedIn, Holds}
 use Rattle.desk.specs.Outcomes.{Outcome, importanceOutcome}

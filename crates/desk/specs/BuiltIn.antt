@@ -9,7 +9,7 @@ use Rattle.ratings.specs.Ratings.{T}
 use Rattle.reliability.specs.Rule.{figure, tree}
 use Rattle.reliability.specs.Comparisons.{importance, difference}
 use Rattle.plan.specs.Plans.{verdict, planOf}
-use Rattle.refusals.specs.declared.CallVerdict.{CallVerdict}
+use Rattle.causes.specs.declared.CallVerdict.{CallVerdict}
 use Rattle.refusals.specs.Refusals.{asked, workRoom, planned, plannedSecond, placed, also}
 use Rattle.answers.specs.Answers.{withFigure}
 use Rattle.sittings.specs.Sittings.{begun, sitting}

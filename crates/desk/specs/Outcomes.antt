@@ -8,10 +8,11 @@ use Rattle.reliability.specs.Rule.{figure}
 use Rattle.reliability.specs.Comparisons.{importance, difference}
 use Rattle.tables.specs.Tables.{rating}
 use Rattle.plan.specs.Plans.{verdict, returned, planOf}
-use Rattle.refusals.specs.declared.CallVerdict.{CallVerdict}
-use Rattle.refusals.specs.declared.CallVerdict.the-variants.{Accepted, Refused}
+use Rattle.causes.specs.declared.CallVerdict.{CallVerdict}
+use Rattle.causes.specs.declared.CallVerdict.the-variants.{Accepted, Refused}
 use Rattle.answers.specs.Answers.{answered, withFigure}
-use Rattle.refusals.specs.Refusals.{callReturned, figureVerdict, importanceVerdict, differenceVerdict}
+use Rattle.causes.specs.Causes.{callReturned}
+use Rattle.refusals.specs.Refusals.{figureVerdict, importanceVerdict, differenceVerdict}
 
 -- two's complement in 32 bits
 abbrev pub twos : ℤ → ℕ

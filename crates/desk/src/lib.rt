@@ -1,5 +1,5 @@
 // The planning desk's five calls, for programs in C.
-use refusals::CallVerdict;
+use causes::CallVerdict;
 ghost use mathlib.Core.Path.{_≡_};
 ghost use Rattle.sitting_desk.specs.Outcome.{sittingOutcome};
 ghost use Rattle.desk.specs.Outcomes.{twos, checkOutcome, figureOutcome, importanceOutcome, differenceOutcome};
@@ -29,7 +29,7 @@ pub extern "C" fn figure(plan: &[u8], table: &[u8], limit: u64, answer: &mut [u8
 {
     let v = refusals::figure_verdict(plan, table, limit, answer.len());
     if let CallVerdict::Refused(_) = v {
-        return refusals::call_returned(v);
+        return causes::call_returned(v);
     }
     let f = factoring::work(loading::network_of(plan, table), limit);
     answers::put_answer(answer, f.low, f.high, f.steps, f.finished);
@@ -49,7 +49,7 @@ pub extern "C" fn importance(
 {
     let w = refusals::importance_verdict(plan, table, place, limit, answer.len());
     if let CallVerdict::Refused(_) = w {
-        return refusals::call_returned(w);
+        return causes::call_returned(w);
     }
     let gain = comparisons::importance(loading::network_of(plan, table), place as usize, limit);
     answers::put_answer(answer, gain.low, gain.high, gain.steps, gain.finished);
@@ -69,11 +69,11 @@ pub extern "C" fn difference(
 {
     let a = refusals::figure_verdict(first, table, limit, answer.len());
     if let CallVerdict::Refused(_) = a {
-        return refusals::call_returned(a);
+        return causes::call_returned(a);
     }
     let b = refusals::second_verdict(second);
     if let CallVerdict::Refused(_) = b {
-        return refusals::call_returned(b);
+        return causes::call_returned(b);
     }
     let d = comparisons::difference(
         loading::network_of(first, table),

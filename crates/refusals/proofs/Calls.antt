@@ -13,25 +13,15 @@ use Rattle.plan.specs.declared.Cause.{Cause}
 use Rattle.plan.specs.declared.Verdict.{Verdict}
 use Rattle.plan.specs.declared.Verdict.the-variants.{Accepted as PlanAccepted, Refused as PlanRefused}
 use Rattle.plan.specs.Plans.{WellFormed, sizeM, verdict, returned}
-use Rattle.plan.proofs.Verdicts.{number-range, accepted-means}
-use Rattle.refusals.specs.declared.CallCause.{CallCause}
-use Rattle.refusals.specs.declared.CallCause.the-variants.{Limit, Buffer, TableSize, TableValues, Place, SavedWork, OpenSplit, Plan, SecondPlan}
-use Rattle.refusals.specs.declared.CallVerdict.{CallVerdict}
-use Rattle.refusals.specs.declared.CallVerdict.the-variants.{Accepted, Refused}
-use Rattle.refusals.specs.Refusals.{callNumber, callReturned, asked, workRoom, tabled, planned, plannedSecond, placed, also, given, figureVerdict, sittingVerdict}
+use Rattle.plan.proofs.Verdicts.{accepted-means}
+use Rattle.causes.specs.declared.CallCause.{CallCause}
+use Rattle.causes.specs.declared.CallCause.the-variants.{Limit, Buffer, TableSize, TableValues, Place}
+use Rattle.causes.specs.declared.CallVerdict.{CallVerdict}
+use Rattle.causes.specs.declared.CallVerdict.the-variants.{Accepted, Refused}
+use Rattle.causes.specs.Causes.{callReturned}
+use Rattle.refusals.specs.Refusals.{asked, workRoom, tabled, planned, plannedSecond, placed, also, given, figureVerdict, sittingVerdict}
 
 -- ---- the numbers returned
-
-pub call-number-range : (c : CallCause) → (1 ≤ callNumber c) × (callNumber c ≤ 26)
-call-number-range Limit = omega arith
-call-number-range Buffer = omega arith
-call-number-range TableSize = omega arith
-call-number-range TableValues = omega arith
-call-number-range Place = omega arith
-call-number-range SavedWork = omega arith
-call-number-range OpenSplit = omega arith
-call-number-range (Plan c) = omega (arith, number-range c)
-call-number-range (SecondPlan c) = omega (arith, number-range c)
 
 -- plan A's number is that which check returns, and plan B's is 20 more
 pub first-returned : (v : Verdict) → callReturned (planned v) ≡ returned v
@@ -40,11 +30,6 @@ first-returned (PlanRefused c) = refl
 
 pub second-returned : (c : Cause) → callReturned (plannedSecond (PlanRefused c)) ≡ returned (PlanRefused c) + 20
 second-returned c = omega arith
-
--- 0 is returned of nothing but an accepted call
-pub zero-accepted : (v : CallVerdict) → callReturned v ≡ 0 → v ≡ Accepted
-zero-accepted Accepted e = refl
-zero-accepted (Refused c) e = absurd (omega (arith, call-number-range c))
 
 -- ---- what is accepted
 

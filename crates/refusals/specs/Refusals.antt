@@ -1,49 +1,17 @@
--- Why a call is refused, and the number that it then returns.
-use Prim.Native.Nat.{ℕ, _+_, _*_}
+-- Which cause of refusal a call meets first.
+use Prim.Native.Nat.{ℕ}
 use mathlib.Core.List.{List}
 use mathlib.Core.Bool.{cond}
 use lib.Dec.{leb, ltb}
 use Rattle.tables.specs.Tables.{sized, wellRated}
 use Rattle.plan.specs.declared.Verdict.{Verdict}
 use Rattle.plan.specs.declared.Verdict.the-variants.{Accepted as PlanAccepted, Refused as PlanRefused}
-use Rattle.plan.specs.Plans.{sizeM, verdict, number, namedLink}
-use Rattle.refusals.specs.declared.CallCause.{CallCause}
-use Rattle.refusals.specs.declared.CallCause.the-variants.{Limit, Buffer, TableSize, TableValues, Place, SavedWork, OpenSplit, Plan, SecondPlan}
-use Rattle.refusals.specs.declared.CallVerdict.{CallVerdict}
-use Rattle.refusals.specs.declared.CallVerdict.the-variants.{Accepted, Refused}
+use Rattle.plan.specs.Plans.{sizeM, verdict}
+use Rattle.causes.specs.declared.CallCause.the-variants.{Limit, Buffer, TableSize, TableValues, Place, Plan, SecondPlan}
+use Rattle.causes.specs.declared.CallVerdict.{CallVerdict}
+use Rattle.causes.specs.declared.CallVerdict.the-variants.{Accepted, Refused}
 
--- ---- the paper's numbers
-
--- the column Number: plan A's is that of its cause, plan B's 20 more
-abbrev pub callNumber : CallCause → ℕ
-callNumber Limit = 7
-callNumber Buffer = 9
-callNumber TableSize = 12
-callNumber TableValues = 13
-callNumber Place = 8
-callNumber SavedWork = 10
-callNumber OpenSplit = 11
-callNumber (Plan c) = number c
-callNumber (SecondPlan c) = number c + 20
-
--- the link that a cause names, or 0
-abbrev pub callLink : CallCause → ℕ
-callLink Limit = 0
-callLink Buffer = 0
-callLink TableSize = 0
-callLink TableValues = 0
-callLink Place = 0
-callLink SavedWork = 0
-callLink OpenSplit = 0
-callLink (Plan c) = namedLink c
-callLink (SecondPlan c) = namedLink c
-
--- the column Returned
-abbrev pub callReturned : CallVerdict → ℕ
-callReturned Accepted = 0
-callReturned (Refused c) = callNumber c + 256 * callLink c
-
--- ---- refusals, in the order in which the causes are tested
+-- ---- in the order in which the causes are tested
 
 -- limit above 1,000,000, then answer buffer under 16 bytes
 unfoldable pub asked : ℕ → ℕ → CallVerdict

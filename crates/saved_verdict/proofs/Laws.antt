@@ -6,8 +6,8 @@ use mathlib.Core.Logic.{_↔_}
 use mathlib.Core.Bool.{Bool, true, false, cond}
 use native.Mathlib.Omega.{arith}
 use Rattle.reliability.specs.Rule.{Tree}
-use Rattle.refusals.specs.declared.CallCause.the-variants.{SavedWork, OpenSplit}
-use Rattle.refusals.specs.declared.CallVerdict.the-variants.{Accepted, Refused}
+use Rattle.causes.specs.declared.CallCause.the-variants.{SavedWork, OpenSplit}
+use Rattle.causes.specs.declared.CallVerdict.the-variants.{Accepted, Refused}
 use Rattle.sittings.specs.Sittings.{traced}
 use Rattle.saved.specs.Format.{stateIn, opensFrom, opensOf, wellFormed}
 use Rattle.saved.proofs.Laws.{complete-means}

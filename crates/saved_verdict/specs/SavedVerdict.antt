@@ -3,9 +3,9 @@ use Prim.Native.Nat.{ℕ}
 use mathlib.Core.List.{List}
 use mathlib.Core.Bool.{cond}
 use Rattle.reliability.specs.Rule.{Tree}
-use Rattle.refusals.specs.declared.CallCause.the-variants.{SavedWork, OpenSplit}
-use Rattle.refusals.specs.declared.CallVerdict.{CallVerdict}
-use Rattle.refusals.specs.declared.CallVerdict.the-variants.{Accepted, Refused}
+use Rattle.causes.specs.declared.CallCause.the-variants.{SavedWork, OpenSplit}
+use Rattle.causes.specs.declared.CallVerdict.{CallVerdict}
+use Rattle.causes.specs.declared.CallVerdict.the-variants.{Accepted, Refused}
 use Rattle.sittings.specs.Sittings.{traced}
 use Rattle.saved.specs.Format.{opensOf, wellFormed}
 

@@ -1,7 +1,7 @@
 // The causes of saved work: 10, then 11.
+use causes::CallCause;
+use causes::CallVerdict;
 use plan::Verdict;
-use refusals::CallCause;
-use refusals::CallVerdict;
 ghost use mathlib.Core.Path.{_≡_};
 ghost use Rattle.reliability.specs.Rule.{tree};
 ghost use Rattle.tables.specs.Tables.{rating, AcceptedTable};

@@ -14,7 +14,7 @@ use Rattle.tables.proofs.Theorems.{rating-range}
 use Rattle.plan.specs.Plans.{WellFormed, planOf}
 use Rattle.plan.proofs.Verdicts.{accepted-means}
 use Rattle.plan.proofs.Accepted.{plan-valid, plan-links}
-use Rattle.refusals.specs.declared.CallVerdict.the-variants.{Accepted}
+use Rattle.causes.specs.declared.CallVerdict.the-variants.{Accepted}
 use Rattle.sittings.specs.Sittings.{traced, Saved, begun, complete, sitting, savedAfter, byLargestSum}
 use Rattle.sittings.proofs.GoodSaved.{GoodSaved, sitting-good, Fits, good-fits}
 use Rattle.saved.specs.Format.{countIn, stateIn, savedBytes, over}

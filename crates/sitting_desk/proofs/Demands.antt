@@ -18,10 +18,10 @@ use Rattle.tables.proofs.Theorems.{rating-range}
 use Rattle.plan.specs.Plans.{WellFormed, planOf}
 use Rattle.plan.proofs.Verdicts.{accepted-means}
 use Rattle.plan.proofs.Accepted.{plan-valid}
-use Rattle.refusals.specs.declared.CallVerdict.{CallVerdict}
-use Rattle.refusals.specs.declared.CallVerdict.the-variants.{Accepted, Refused}
-use Rattle.refusals.specs.Refusals.{callReturned}
-use Rattle.refusals.proofs.Calls.{call-number-range, zero-accepted}
+use Rattle.causes.specs.declared.CallVerdict.{CallVerdict}
+use Rattle.causes.specs.declared.CallVerdict.the-variants.{Accepted, Refused}
+use Rattle.causes.specs.Causes.{callReturned}
+use Rattle.causes.proofs.Laws.{call-number-range, zero-accepted}
 use Rattle.answers.specs.Answers.{answerBytes, withFigure, stepsIn}
 use Rattle.answers.proofs.Laws.{steps-written}
 use Rattle.sittings.specs.Sittings.{Open, opens, resumed, Saved, begun, complete, Sitting, nothing, most, sitting, savedAfter, Choosing, byLargestSum, choiceOf, savedBy}

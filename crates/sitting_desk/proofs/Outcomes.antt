@@ -9,10 +9,11 @@ use lib.Seq.{take-length}
 use Rattle.reliability.specs.Rule.{tree}
 use Rattle.tables.specs.Tables.{rating, AcceptedTable}
 use Rattle.plan.specs.Plans.{WellFormed, planOf}
-use Rattle.refusals.specs.declared.CallCause.{CallCause}
-use Rattle.refusals.specs.declared.CallVerdict.{CallVerdict}
-use Rattle.refusals.specs.declared.CallVerdict.the-variants.{Accepted, Refused}
-use Rattle.refusals.specs.Refusals.{callReturned, sittingVerdict}
+use Rattle.causes.specs.declared.CallCause.{CallCause}
+use Rattle.causes.specs.declared.CallVerdict.{CallVerdict}
+use Rattle.causes.specs.declared.CallVerdict.the-variants.{Accepted, Refused}
+use Rattle.causes.specs.Causes.{callReturned}
+use Rattle.refusals.specs.Refusals.{sittingVerdict}
 use Rattle.refusals.proofs.Calls.{also-means, sitting-means}
 use Rattle.saved.specs.Format.{stateIn, over}
 use Rattle.saved_verdict.specs.SavedVerdict.{savedVerdict}

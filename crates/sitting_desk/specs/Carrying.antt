@@ -10,7 +10,7 @@ use Rattle.reliability.specs.Rule.{Tree, tree, run, more}
 use Rattle.tables.specs.Tables.{rating, AcceptedTable}
 use Rattle.plan.specs.declared.Verdict.the-variants.{Accepted as PlanAccepted}
 use Rattle.plan.specs.Plans.{verdict, planOf}
-use Rattle.refusals.specs.declared.CallVerdict.the-variants.{Accepted}
+use Rattle.causes.specs.declared.CallVerdict.the-variants.{Accepted}
 use Rattle.sittings.specs.declared.Carried.{Carried}
 use Rattle.sittings.specs.Sittings.{complete, most, aside, resumed}
 use Rattle.sittings.specs.Entries.{entries, opensIn}

@@ -6,7 +6,7 @@ use lib.ListN.{length, drop}
 use Rattle.reliability.specs.Rule.{tree}
 use Rattle.tables.specs.Tables.{rating}
 use Rattle.plan.specs.Plans.{sizeM, planOf}
-use Rattle.refusals.specs.declared.CallVerdict.the-variants.{Accepted}
+use Rattle.causes.specs.declared.CallVerdict.the-variants.{Accepted}
 use Rattle.saved.specs.Format.{over}
 use Rattle.saved_verdict.specs.SavedVerdict.{savedVerdict}
 use Rattle.sitting_desk.specs.Outcome.{SittingOutcome}

@@ -7,9 +7,10 @@ use lib.ListN.{length, take, drop}
 use Rattle.reliability.specs.Rule.{tree}
 use Rattle.tables.specs.Tables.{rating}
 use Rattle.plan.specs.Plans.{planOf}
-use Rattle.refusals.specs.declared.CallVerdict.{CallVerdict}
-use Rattle.refusals.specs.declared.CallVerdict.the-variants.{Accepted, Refused}
-use Rattle.refusals.specs.Refusals.{callReturned, also, sittingVerdict}
+use Rattle.causes.specs.declared.CallVerdict.{CallVerdict}
+use Rattle.causes.specs.declared.CallVerdict.the-variants.{Accepted, Refused}
+use Rattle.causes.specs.Causes.{callReturned}
+use Rattle.refusals.specs.Refusals.{also, sittingVerdict}
 use Rattle.answers.specs.Answers.{withFigure}
 use Rattle.sittings.specs.Sittings.{Sitting, begun, sitting}
 use Rattle.saved.specs.Format.{stateIn, takenIn, opensOf, savedBytes, over}

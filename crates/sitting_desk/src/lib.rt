@@ -1,5 +1,5 @@
 // A sitting of the planning desk: a long run is set aside and carried on.
-use refusals::CallVerdict;
+use causes::CallVerdict;
 use reliability::Figure;
 use sittings::Carried;
 ghost use mathlib.Core.Path.{_≡_};
@@ -108,7 +108,7 @@ pub fn sitting(
 {
     let v = verdict_of(plan, table, limit, saved, answer.len(), work.len());
     if let CallVerdict::Refused(_) = v {
-        return refusals::call_returned(v);
+        return causes::call_returned(v);
     }
     if saved::is_complete(saved) {
         saved_writing::copied(saved, 8, answer, 16);

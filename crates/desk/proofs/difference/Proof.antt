@@ -10,10 +10,11 @@ use Rattle.reliability.specs.Comparisons.{difference}
 use Rattle.tables.specs.Tables.{rating, AcceptedTable}
 use Rattle.plan.specs.declared.Verdict.the-variants.{Accepted as PlanAccepted}
 use Rattle.plan.specs.Plans.{verdict, planOf}
-use Rattle.refusals.specs.declared.CallCause.{CallCause}
-use Rattle.refusals.specs.declared.CallVerdict.{CallVerdict}
-use Rattle.refusals.specs.declared.CallVerdict.the-variants.{Accepted, Refused}
-use Rattle.refusals.specs.Refusals.{callReturned, plannedSecond, also, figureVerdict, differenceVerdict}
+use Rattle.causes.specs.declared.CallCause.{CallCause}
+use Rattle.causes.specs.declared.CallVerdict.{CallVerdict}
+use Rattle.causes.specs.declared.CallVerdict.the-variants.{Accepted, Refused}
+use Rattle.causes.specs.Causes.{callReturned}
+use Rattle.refusals.specs.Refusals.{plannedSecond, also, figureVerdict, differenceVerdict}
 use Rattle.refusals.proofs.Calls.{figure-asks, second-means, also-means}
 use Rattle.answers.specs.Answers.{answered}
 use Rattle.desk.specs.Outcomes.{twos, withDifference, differenceOutcome}

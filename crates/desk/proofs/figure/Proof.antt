@@ -8,8 +8,9 @@ use Rattle.reliability.specs.Rule.{figure}
 use Rattle.tables.specs.Tables.{rating, AcceptedTable}
 use Rattle.plan.specs.declared.Verdict.the-variants.{Accepted as PlanAccepted}
 use Rattle.plan.specs.Plans.{verdict, planOf}
-use Rattle.refusals.specs.declared.CallVerdict.the-variants.{Accepted}
-use Rattle.refusals.specs.Refusals.{callReturned, figureVerdict}
+use Rattle.causes.specs.declared.CallVerdict.the-variants.{Accepted}
+use Rattle.causes.specs.Causes.{callReturned}
+use Rattle.refusals.specs.Refusals.{figureVerdict}
 use Rattle.refusals.proofs.Calls.{figure-asks}
 use Rattle.answers.specs.Answers.{withFigure}
 use Rattle.desk.specs.Outcomes.{figureOutcome}

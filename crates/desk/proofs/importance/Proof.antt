@@ -9,8 +9,9 @@ use Rattle.plan.specs.declared.Verdict.the-variants.{Accepted as PlanAccepted}
 use Rattle.plan.specs.Plans.{sizeM, verdict, planOf}
 use Rattle.network.proofs.Picks.{built-used}
 use Rattle.loading.proofs.Stands.{stands-importance}
-use Rattle.refusals.specs.declared.CallVerdict.the-variants.{Accepted}
-use Rattle.refusals.specs.Refusals.{callReturned, placed, figureVerdict, importanceVerdict}
+use Rattle.causes.specs.declared.CallVerdict.the-variants.{Accepted}
+use Rattle.causes.specs.Causes.{callReturned}
+use Rattle.refusals.specs.Refusals.{placed, figureVerdict, importanceVerdict}
 use Rattle.refusals.proofs.Calls.{figure-asks, placed-means, also-means}
 use Rattle.answers.specs.Answers.{withFigure}
 use Rattle.desk.specs.Outcomes.{importanceOutcome}

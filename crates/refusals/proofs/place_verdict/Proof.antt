@@ -3,8 +3,8 @@ use mathlib.Core.Path.{sym, ap, _∙_}
 use mathlib.Core.Bool.{cond}
 use lib.Dec.{leb}
 use borrow.Author.Tests.{lt-leb, le-leb}
-use Rattle.refusals.specs.declared.CallCause.the-variants.{Place}
-use Rattle.refusals.specs.declared.CallVerdict.the-variants.{Accepted, Refused}
+use Rattle.causes.specs.declared.CallCause.the-variants.{Place}
+use Rattle.causes.specs.declared.CallVerdict.the-variants.{Accepted, Refused}
 use Rattle.refusals.specs.Refusals.{placed}
 use borrow.Author.Needs.{needs}
 use Rattle.refusals.proofs.place_verdict.Statement.{statement}

@@ -5,8 +5,8 @@ use mathlib.Core.Bool.{Bool, true, false, cond}
 use borrow.Author.Needs.{needs}
 use borrow.Author.Tests.{not-true, not-false}
 use Rattle.tables.specs.Tables.{sized, wellRated}
-use Rattle.refusals.specs.declared.CallCause.the-variants.{TableSize, TableValues}
-use Rattle.refusals.specs.declared.CallVerdict.the-variants.{Accepted, Refused}
+use Rattle.causes.specs.declared.CallCause.the-variants.{TableSize, TableValues}
+use Rattle.causes.specs.declared.CallVerdict.the-variants.{Accepted, Refused}
 use Rattle.refusals.specs.Refusals.{tabled}
 use Rattle.refusals.proofs.table_verdict.Statement.{statement}
 use Rattle.refusals.proofs.table_verdict.Tie as tie

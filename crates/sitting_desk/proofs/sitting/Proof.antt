@@ -8,8 +8,8 @@ use Rattle.reliability.specs.Rule.{tree}
 use Rattle.tables.specs.Tables.{rating}
 use Rattle.plan.specs.Plans.{planOf}
 use Rattle.plan.proofs.Verdicts.{accepted-means}
-use Rattle.refusals.specs.declared.CallVerdict.the-variants.{Accepted}
-use Rattle.refusals.specs.Refusals.{callReturned}
+use Rattle.causes.specs.declared.CallVerdict.the-variants.{Accepted}
+use Rattle.causes.specs.Causes.{callReturned}
 use Rattle.saved.specs.Format.{stateIn, wellFormed}
 use Rattle.saved.proofs.Laws.{formed-size, complete-means, begun-else}
 use Rattle.saved_verdict.proofs.Laws.{saved-means}

@@ -1,8 +1,8 @@
 use mathlib.Core.Path.{ap}
 use borrow.Author.Needs.{needs}
-use Rattle.refusals.specs.Refusals.{callReturned}
-use Rattle.refusals.proofs.call_returned.Statement.{statement}
-use Rattle.refusals.proofs.call_returned.Tie as tie
+use Rattle.causes.specs.Causes.{callReturned}
+use Rattle.causes.proofs.call_returned.Statement.{statement}
+use Rattle.causes.proofs.call_returned.Tie as tie
 
 enum-told : tie.Need-enum-told
 enum-told c = search needs

@@ -1,6 +1,6 @@
 use borrow.Author.Needs.{needs}
-use Rattle.refusals.proofs.call_link.Statement.{statement}
-use Rattle.refusals.proofs.call_link.Tie as tie
+use Rattle.causes.proofs.call_link.Statement.{statement}
+use Rattle.causes.proofs.call_link.Tie as tie
 
 -- the call's own causes, the plan's with the call that names its link, and then what is returned of each
 pub call-link-spec : {M : Type 1} → statement M

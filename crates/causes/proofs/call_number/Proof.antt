@@ -2,9 +2,9 @@ use mathlib.Core.Path.{ap}
 use native.Mathlib.Omega.{arith}
 use borrow.Author.Needs.{needs}
 use Rattle.plan.proofs.Verdicts.{number-range}
-use Rattle.refusals.specs.Refusals.{callNumber}
-use Rattle.refusals.proofs.call_number.Statement.{statement}
-use Rattle.refusals.proofs.call_number.Tie as tie
+use Rattle.causes.specs.Causes.{callNumber}
+use Rattle.causes.proofs.call_number.Statement.{statement}
+use Rattle.causes.proofs.call_number.Tie as tie
 
 enum-told : tie.Need-enum-told
 enum-told c = search needs

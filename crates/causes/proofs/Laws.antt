@@ -1,0 +1,26 @@
+-- The numbers returned.
+use Prim.Native.Nat.{_≤_}
+use mathlib.Core.Path.{_≡_, refl}
+use native.Mathlib.Omega.{arith}
+use Rattle.plan.proofs.Verdicts.{number-range}
+use Rattle.causes.specs.declared.CallCause.{CallCause}
+use Rattle.causes.specs.declared.CallCause.the-variants.{Limit, Buffer, TableSize, TableValues, Place, SavedWork, OpenSplit, Plan, SecondPlan}
+use Rattle.causes.specs.declared.CallVerdict.{CallVerdict}
+use Rattle.causes.specs.declared.CallVerdict.the-variants.{Accepted, Refused}
+use Rattle.causes.specs.Causes.{callNumber, callReturned}
+
+pub call-number-range : (c : CallCause) → (1 ≤ callNumber c) × (callNumber c ≤ 26)
+call-number-range Limit = omega arith
+call-number-range Buffer = omega arith
+call-number-range TableSize = omega arith
+call-number-range TableValues = omega arith
+call-number-range Place = omega arith
+call-number-range SavedWork = omega arith
+call-number-range OpenSplit = omega arith
+call-number-range (Plan c) = omega (arith, number-range c)
+call-number-range (SecondPlan c) = omega (arith, number-range c)
+
+-- 0 is returned of nothing but an accepted call
+pub zero-accepted : (v : CallVerdict) → callReturned v ≡ 0 → v ≡ Accepted
+zero-accepted Accepted e = refl
+zero-accepted (Refused c) e = absurd (omega (arith, call-number-range c))
