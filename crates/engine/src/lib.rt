@@ -33,12 +33,12 @@ pub fn run<'r>(
     match steps::step(alive, nodes, at, a, b, low, high) {
         Next::OneNode => sittings::whole(figures::settled(1_000_000_000)),
         Next::End(v, i) => {
-            let e = network::link_at(a, b, low, high, i);
+            let e = assembly::link_at(a, b, low, high, i);
             if search::at_most_one(bits::without(nodes as u64, v)) {
                 let one = figures::settled(1_000_000_000);
                 return sittings::whole(figures::times(e.low, e.high, one));
             }
-            let r = network::assembled(alive, nodes, at, a, b, low, high).end(v, i);
+            let r = assembly::assembled(alive, nodes, at, a, b, low, high).end(v, i);
             let f = run(
                 r.alive,
                 r.nodes,
@@ -59,9 +59,9 @@ pub fn run<'r>(
             }
         }
         Next::Series(v, i, j) => {
-            let e = network::link_at(a, b, low, high, i);
-            let h = network::link_at(a, b, low, high, j);
-            let r = network::assembled(alive, nodes, at, a, b, low, high)
+            let e = assembly::link_at(a, b, low, high, i);
+            let h = assembly::link_at(a, b, low, high, j);
+            let r = assembly::assembled(alive, nodes, at, a, b, low, high)
                 .series(v, i, j)
                 .parallel();
             let f = run(
@@ -88,7 +88,7 @@ pub fn run<'r>(
             if sittings::stopped(left, limit) {
                 return sittings::whole(figures::unfinished());
             }
-            let e = network::link_at(a, b, low, high, i);
+            let e = assembly::link_at(a, b, low, high, i);
             let place = steps::place(alive, i);
             let own = sittings::own_steps(left);
             let limited = limit - (own as u64);
@@ -97,7 +97,7 @@ pub fn run<'r>(
             let sound = if known {
                 sittings::known_at(row, k)
             } else {
-                let s = network::assembled(alive, nodes, at, a, b, low, high)
+                let s = assembly::assembled(alive, nodes, at, a, b, low, high)
                     .contracted(i)
                     .parallel();
                 run(

@@ -11,7 +11,7 @@ ghost use Rattle.reliability.specs.Networks.{Proper};
 ghost use Rattle.reliability.specs.Rule.{isLoop, deleted, removed, joined, inSeries, contracted};
 ghost use Rattle.reliability.specs.Simple.{Plain, unpaired};
 ghost use Rattle.search.specs.Searches.{from};
-ghost use Rattle.network.specs.Places.{networkOf, linksOf, nodesOf, indexOf, linkOf, Used, Invariant, Built, Fitting, rowOf, assembled};
+ghost use Rattle.network.specs.Places.{networkOf, linksOf, nodesOf, indexOf, linkOf, Used, Invariant, Built, Fitting};
 
 pub struct Network {
     pub alive: u64,
@@ -21,48 +21,6 @@ pub struct Network {
     pub a: [u8; 64],
     pub b: [u8; 64],
     pub nodes: u32,
-}
-
-// The link at place i, from the parts of a network.
-pub fn link_at<'r>(
-    a: &'r [u8; 64],
-    b: &'r [u8; 64],
-    low: &'r [u32; 64],
-    high: &'r [u32; 64],
-    i: usize,
-) -> Link
-    requires { ⌜ i < 64 ⌝ }
-    ensures { λ r. ⌜ r ≡ rowOf (now (a .entry)) (now (b .entry)) (now (low .entry)) (now (high .entry)) i ⌝ }
-{
-    Link {
-        a: a[i],
-        b: b[i],
-        low: low[i],
-        high: high[i],
-    }
-}
-
-// The network of these parts.
-pub fn assembled<'r>(
-    alive: u64,
-    nodes: u32,
-    at: &'r [u64; 32],
-    a: &'r [u8; 64],
-    b: &'r [u8; 64],
-    low: &'r [u32; 64],
-    high: &'r [u32; 64],
-) -> Network
-    ensures { λ r. ⌜ r ≡ assembled alive nodes (now (at .entry)) (now (a .entry)) (now (b .entry)) (now (low .entry)) (now (high .entry)) ⌝ }
-{
-    Network {
-        alive,
-        at: *at,
-        low: *low,
-        high: *high,
-        a: *a,
-        b: *b,
-        nodes,
-    }
 }
 
 impl Network {

@@ -32,7 +32,7 @@ fn follow<'r>(
     match steps::step(alive, nodes, at, a, b, low, high) {
         Next::OneNode => false,
         Next::End(v, i) => {
-            let r = network::assembled(alive, nodes, at, a, b, low, high).end(v, i);
+            let r = assembly::assembled(alive, nodes, at, a, b, low, high).end(v, i);
             follow(
                 r.alive,
                 r.nodes,
@@ -47,7 +47,7 @@ fn follow<'r>(
             )
         }
         Next::Series(v, i, j) => {
-            let r = network::assembled(alive, nodes, at, a, b, low, high)
+            let r = assembly::assembled(alive, nodes, at, a, b, low, high)
                 .series(v, i, j)
                 .parallel();
             follow(
@@ -69,7 +69,7 @@ fn follow<'r>(
                 return false;
             }
             if sittings::is_known(row, k, left) {
-                let d = network::assembled(alive, nodes, at, a, b, low, high).deleted(i);
+                let d = assembly::assembled(alive, nodes, at, a, b, low, high).deleted(i);
                 if 1 < steps::pieces(d) {
                     return left == 1;
                 }
@@ -86,7 +86,7 @@ fn follow<'r>(
                     left - 1,
                 );
             }
-            let s = network::assembled(alive, nodes, at, a, b, low, high)
+            let s = assembly::assembled(alive, nodes, at, a, b, low, high)
                 .contracted(i)
                 .parallel();
             follow(

@@ -53,8 +53,8 @@ use Rattle.network.proofs.Network.contracted.Reads as contracted-reads
 use Rattle.network.proofs.Network.end.Reads as end-reads
 use Rattle.network.proofs.Network.parallel.Reads as parallel-reads
 use Rattle.network.proofs.Network.series.Reads as series-reads
-use Rattle.network.proofs.assembled.Reads as assembled-reads
-use Rattle.network.proofs.link_at.Reads as link-at-reads
+use Rattle.assembly.proofs.assembled.Reads as assembled-reads
+use Rattle.assembly.proofs.link_at.Reads as link-at-reads
 use Rattle.parts.proofs.take_out.Reads as take-out-reads
 use Rattle.pieces.proofs.count.Reads as count-reads
 use Rattle.search.proofs.at_most_one.Reads as at-most-one-reads

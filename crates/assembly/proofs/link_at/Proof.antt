@@ -1,7 +1,7 @@
 use mathlib.Core.Path.{refl}
 use borrow.Author.Needs.{needs}
-use Rattle.network.proofs.link_at.Statement.{statement}
-use Rattle.network.proofs.link_at.Tie as tie
+use Rattle.assembly.proofs.link_at.Statement.{statement}
+use Rattle.assembly.proofs.link_at.Tie as tie
 
 element-copy-out-t8 : tie.Need-element-copy-out-t8
 element-copy-out-t8 c = search needs
