@@ -12,21 +12,32 @@ use Rattle.rounding.specs.declared.Direction.{Direction}
 use Rattle.rounding.specs.declared.Direction.the-variants.{Down, Up}
 use Rattle.ratings.specs.Ratings.{T, AtMostS, withJoints}
 use Rattle.ratings.proofs.Joints.{joints-range, joints-order}
+use Rattle.tables.specs.Tables.{valueIn, rating}
+use Rattle.tables.proofs.Examples.{bytes, whole}
 use Rattle.plan.specs.declared.Rated.{Rated}
 use Rattle.plan.specs.declared.Rated.the-variants.{Units, OfLength, Unrated}
 use Rattle.plan.specs.Plans.{ratedBy, rated, valueOf}
 
 -- 0, S and a value between in units; lengths of 0 and 51,100 metres; one more stands for none
-pub worked : Direction → List ℕ
-worked d = map (λ w. valueOf T d (rated w)) (0 ∷ 1000000000 ∷ 999700000 ∷ 2147483648 ∷ 2147484159 ∷ 2147484160 ∷ [])
+pub worked : (rating : ℕ → ℕ) → Direction → List ℕ
+worked rating d = map (λ w. valueOf rating d (rated w)) (0 ∷ 1000000000 ∷ 999700000 ∷ 2147483648 ∷ 2147484159 ∷ 2147484160 ∷ [])
 
-pub lows : worked Down ≡ (0 ∷ 1000000000 ∷ 999700000 ∷ 999900002 ∷ 857766565 ∷ 0 ∷ [])
+pub lows : worked T Down ≡ (0 ∷ 1000000000 ∷ 999700000 ∷ 999900002 ∷ 857766565 ∷ 0 ∷ [])
 unfolding worked rated T withJoints product quotient
 lows = refl
 
-pub highs : worked Up ≡ (0 ∷ 1000000000 ∷ 999700000 ∷ 999900003 ∷ 857766567 ∷ 0 ∷ [])
+pub highs : worked T Up ≡ (0 ∷ 1000000000 ∷ 999700000 ∷ 999900003 ∷ 857766567 ∷ 0 ∷ [])
 unfolding worked rated T withJoints product quotient
 highs = refl
+
+-- by a buyer's table whose last value is 800,000,001
+pub buyers-lows : worked (rating (whole 800000001)) Down ≡ (0 ∷ 1000000000 ∷ 999700000 ∷ 999900002 ∷ 799920002 ∷ 0 ∷ [])
+unfolding worked rated rating valueIn bytes whole withJoints product quotient
+buyers-lows = refl
+
+pub buyers-highs : worked (rating (whole 800000001)) Up ≡ (0 ∷ 1000000000 ∷ 999700000 ∷ 999900003 ∷ 799920003 ∷ 0 ∷ [])
+unfolding worked rated rating valueIn bytes whole withJoints product quotient
+buyers-highs = refl
 
 -- what holds of each value in units up to S, of each length up to 511 and of none holds of what every value stands for
 pub by-rated : (P : Rated → Type 0) → ((v : ℕ) → v ≤ S → P (Units v)) → ((k : ℕ) → k ≤ 511 → P (OfLength k)) → P Unrated → (w : ℕ) → P (rated w)

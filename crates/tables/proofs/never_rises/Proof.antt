@@ -28,7 +28,7 @@ value-requires-2 c κs = search needs
 returns : tie.Need-returns Inv-loop μ-loop
 returns c =
     let w = c .before .before .before in
-    sym (w .before .loop .inv .1 ∙ rises (w .before .before .before .args .table .now) (w .before .loop .k) 511 (w .loop-test .taken) (omega (arith, c .before .before .value .ensures, c .before .value2 .ensures, c .if1 .taken)))
+    sym (w .before .loop .inv .1 ∙ rises (w .before .before .before .args .table .now) (w .before .loop .k) 511 (omega (arith, w .loop-test .taken)) (omega (arith, c .before .before .value .ensures, c .before .value2 .ensures, c .if1 .taken)))
 
 add-k : tie.Need-add-k Inv-loop μ-loop
 add-k c = search needs
@@ -39,7 +39,7 @@ loop-less c = search needs
 loop-again : tie.Need-loop-again Inv-loop μ-loop
 loop-again c =
     let w = c .before .before .before in
-    (omega arith, w .before .loop .inv .1 ∙ onward (w .before .before .before .args .table .now) (w .before .loop .k) 511 (w .loop-test .taken) (omega (arith, c .before .before .value .ensures, c .before .value2 .ensures, c .if1 .left)))
+    (omega arith, w .before .loop .inv .1 ∙ onward (w .before .before .before .args .table .now) (w .before .loop .k) 511 (omega (arith, w .loop-test .taken)) (omega (arith, c .before .before .value .ensures, c .before .value2 .ensures, c .if1 .left)))
 
 returns-2 : tie.Need-returns-2 Inv-loop μ-loop
 returns-2 c = sym (c .before .loop .inv .1 ∙ none-left (c .before .before .before .args .table .now) (c .before .loop .k) 511 (omega arith))

@@ -1,0 +1,41 @@
+-- Calls that several causes refuse, and the number that each returns: computed from the definitions.
+use Prim.Native.Nat.{ℕ}
+use mathlib.Core.Path.{_≡_, refl}
+use mathlib.Core.List.{List, [], _∷_, map}
+use lib.ListN.{replicate}
+use Rattle.tables.specs.Tables.{valueIn, sized, neverRises, wellRated}
+use Rattle.plan.specs.Plans.{linksVerdict, verdict}
+use Rattle.refusals.specs.declared.CallVerdict.{CallVerdict}
+use Rattle.refusals.specs.Refusals.{callReturned, asked, workRoom, tabled, placed, figureVerdict, importanceVerdict, differenceVerdict, sittingVerdict}
+
+-- a plan of one node
+pub one : List ℕ
+one = 1 ∷ 0 ∷ 0 ∷ 0 ∷ []
+
+-- a table of one byte, and one that begins with 0
+pub short : List ℕ
+short = 0 ∷ []
+
+pub zeros : List ℕ
+zeros = replicate 2048 0
+
+pub calls : List CallVerdict
+calls =
+    figureVerdict [] short 1000001 15
+    ∷ figureVerdict [] short 1000000 15
+    ∷ figureVerdict [] short 1000000 16
+    ∷ figureVerdict [] zeros 1000000 16
+    ∷ figureVerdict [] [] 1000000 16
+    ∷ importanceVerdict [] [] 0 0 16
+    ∷ importanceVerdict one [] 0 0 16
+    ∷ differenceVerdict one [] short 0 16
+    ∷ differenceVerdict one [] [] 0 16
+    ∷ sittingVerdict [] short 1000001 16 775
+    ∷ sittingVerdict [] short 1000000 16 775
+    ∷ sittingVerdict [] short 1000000 16 776
+    ∷ []
+
+-- 7 before 9, before 12, before 13, before the plan's; those before 8, and before plan B's
+pub examples : map callReturned calls ≡ (7 ∷ 9 ∷ 12 ∷ 13 ∷ 1 ∷ 1 ∷ 8 ∷ 12 ∷ 21 ∷ 7 ∷ 9 ∷ 12 ∷ [])
+unfolding calls one short zeros asked workRoom tabled sized wellRated valueIn neverRises placed verdict linksVerdict
+examples = refl
