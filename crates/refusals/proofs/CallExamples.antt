@@ -5,8 +5,9 @@ use mathlib.Core.List.{List, [], _∷_, map}
 use lib.ListN.{replicate}
 use Rattle.tables.specs.Tables.{valueIn, sized, neverRises, wellRated}
 use Rattle.plan.specs.Plans.{linksVerdict, verdict}
-use Rattle.refusals.specs.declared.CallVerdict.{CallVerdict}
-use Rattle.refusals.specs.Refusals.{callReturned, asked, workRoom, tabled, placed, figureVerdict, importanceVerdict, differenceVerdict, sittingVerdict}
+use Rattle.causes.specs.declared.CallVerdict.{CallVerdict}
+use Rattle.causes.specs.Causes.{callReturned}
+use Rattle.refusals.specs.Refusals.{asked, workRoom, tabled, placed, figureVerdict, importanceVerdict, differenceVerdict, sittingVerdict}
 
 -- a plan of one node
 pub one : List ℕ
