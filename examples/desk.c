@@ -32,21 +32,21 @@ int main(void)
     printf("check, two links: %" PRIu64 "\n", check(two_links, sizeof two_links));
     printf("check, a byte short: %" PRIu64 "\n", check(two_links, sizeof two_links - 1));
 
-    r = figure(two_links, sizeof two_links, 20000, answer, sizeof answer);
+    r = figure(two_links, sizeof two_links, NULL, 0, 20000, answer, sizeof answer);
     print("figure, two links", r, answer);
-    r = figure(four_nodes, sizeof four_nodes, 20000, answer, sizeof answer);
+    r = figure(four_nodes, sizeof four_nodes, NULL, 0, 20000, answer, sizeof answer);
     print("figure, four nodes", r, answer);
-    r = figure(four_nodes, sizeof four_nodes, 0, answer, sizeof answer);
+    r = figure(four_nodes, sizeof four_nodes, NULL, 0, 0, answer, sizeof answer);
     print("figure, four nodes, no step", r, answer);
-    r = figure(four_nodes, sizeof four_nodes, PLANDESK_MOST_STEPS + 1, answer, sizeof answer);
+    r = figure(four_nodes, sizeof four_nodes, NULL, 0, PLANDESK_MOST_STEPS + 1, answer, sizeof answer);
     print("figure, a step too many", r, answer);
 
-    r = importance(two_links, sizeof two_links, 0, 20000, answer, sizeof answer);
+    r = importance(two_links, sizeof two_links, NULL, 0, 0, 20000, answer, sizeof answer);
     print("importance of link 0", r, answer);
-    r = importance(two_links, sizeof two_links, 2, 20000, answer, sizeof answer);
+    r = importance(two_links, sizeof two_links, NULL, 0, 2, 20000, answer, sizeof answer);
     print("importance of link 2", r, answer);
 
-    r = difference(one_link, sizeof one_link, two_links, sizeof two_links, 20000, answer, sizeof answer);
+    r = difference(one_link, sizeof one_link, two_links, sizeof two_links, NULL, 0, 20000, answer, sizeof answer);
     print("one link less two links", r, answer);
     return 0;
 }

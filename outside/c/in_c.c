@@ -43,9 +43,12 @@ static long slip_in(long slip, long place)
     return slip / 100 == EVERYWHERE || slip / 100 == place ? slip % 100 : NO_SLIP;
 }
 
-static uint32_t rating(uint32_t length)
+/* By the table, or the built-in one where that is NULL. */
+static uint32_t rating(const uint8_t *table, uint32_t length)
 {
     uint64_t chance = S;
+    if (table != NULL)
+        return word(table + 4 * length);
     while (length-- > 0)
         chance = chance * 999700000 / S;
     return chance;
@@ -109,18 +112,19 @@ static uint32_t with_joints(long slip, uint64_t chance, bool is_high)
 }
 
 /* The low and the high value of link i of m. */
-static Pair values_of(long slip, uint32_t value, int i, int m)
+static Pair values_of(long slip, const uint8_t *table, uint32_t value, int i, int m)
 {
-    uint32_t chance = value < LENGTH ? value : rating(value - LENGTH);
+    uint32_t chance = value < LENGTH ? value : rating(table, value - LENGTH);
     if (is_bare(slip, value, i, m) || (value < LENGTH && slip != JOINTS_ON_UNITS))
         return (Pair){chance, chance};
     uint32_t low = with_joints(slip, chance, false), high = with_joints(slip, chance, true);
     return (Pair){slip == HIGH_FOR_BOTH ? high : low, slip == LOW_FOR_BOTH ? low : high};
 }
 
-/* An accepted plan's network. */
-static Network network_of(long slip, const uint8_t *plan)
+/* An accepted plan's network, under the table of an accepted call. */
+static Network network_of(long slip, const struct call *c, const uint8_t *plan)
 {
+    const uint8_t *table = c->table_len == 0 ? NULL : c->table;
     Network g = {0};
     int m = plan[2];
     for (int i = 0; i < m; i++) {
@@ -132,7 +136,7 @@ static Network network_of(long slip, const uint8_t *plan)
         g.at[b] |= link_bit(i);
         g.ends[i][0] = a;
         g.ends[i][1] = b;
-        g.values[i] = values_of(slip, word(plan + 4 + 2 * m + 4 * i), i, m);
+        g.values[i] = values_of(slip, table, word(plan + 4 + 2 * m + 4 * i), i, m);
     }
     for (int v = 0; v < MOST_NODES; v++)
         tally(&g, v);
@@ -337,21 +341,38 @@ static void put_answer(uint8_t *answer, int64_t low, int64_t high, uint64_t step
     put(answer + 12, finished);
 }
 
-static uint64_t asked(const uint8_t *plan, size_t plan_len, uint64_t limit, size_t room)
+/* Checks 12 and 13. */
+static uint64_t table_refused(const uint8_t *table, size_t table_len)
 {
-    if (limit > MOST_STEPS)
-        return 7;
-    return room < 16 ? 9 : proved_check(plan, plan_len);
+    if (table_len == 0)
+        return 0;
+    if (table_len != 2048)
+        return 12;
+    bool right = word(table) == S;
+    for (int k = 1; k < 512; k++)
+        right = right && word(table + 4 * k) <= word(table + 4 * k - 4);
+    return right ? 0 : 13;
 }
 
-uint64_t in_c_figure(long slip, const uint8_t *plan, size_t plan_len, uint64_t limit, uint8_t *answer, size_t answer_len)
+/* The checks up to those of plan A. */
+static uint64_t asked(const struct call *c)
+{
+    if (c->limit > MOST_STEPS)
+        return 7;
+    if (c->room < 16 || (c->which == SITTING && c->work_room < 776))
+        return 9;
+    uint64_t refused = table_refused(c->table, c->table_len);
+    return refused != 0 ? refused : proved_check(c->a, c->a_len);
+}
+
+static uint64_t in_c_figure(long slip, const struct call *c)
 {
     struct run r = {.slip = slip};
-    uint64_t refused = asked(plan, plan_len, limit, answer_len);
+    uint64_t refused = asked(c);
     if (refused != 0)
         return refused;
-    Figure f = worked(&r, network_of(slip_in(slip, IN_FIGURE), plan), nodes_of(plan), limit);
-    put_answer(answer, f.low, f.high, f.steps, f.finished);
+    Figure f = worked(&r, network_of(slip_in(slip, IN_FIGURE), c, c->a), nodes_of(c->a), c->limit);
+    put_answer(c->answer, f.low, f.high, f.steps, f.finished);
     return 0;
 }
 
@@ -361,44 +382,42 @@ static void put_difference(uint8_t *answer, Figure a, Figure b, bool signed_low)
     put_answer(answer, low < 0 && !signed_low ? 0 : low, high, a.steps + b.steps, a.finished && b.finished);
 }
 
-uint64_t in_c_importance(long slip, const uint8_t *plan, size_t plan_len, uint64_t place, uint64_t limit, uint8_t *answer,
-                         size_t answer_len)
+static uint64_t in_c_importance(long slip, const struct call *c)
 {
     struct run r = {.slip = slip};
-    uint64_t refused = asked(plan, plan_len, limit, answer_len);
-    if (refused != 0 || place >= plan[2])
+    uint64_t refused = asked(c);
+    if (refused != 0 || c->place >= c->a[2])
         return refused != 0 ? refused : 8;
-    Network broken = network_of(slip_in(slip, IN_IMPORTANCE), plan), sound = broken;
-    uint32_t nodes = nodes_of(plan), left = nodes;
-    if (broken.links & link_bit(place)) {
-        const uint8_t *ends = broken.ends[place];
+    Network broken = network_of(slip_in(slip, IN_IMPORTANCE), c, c->a), sound = broken;
+    uint32_t nodes = nodes_of(c->a), left = nodes;
+    if (broken.links & link_bit(c->place)) {
+        const uint8_t *ends = broken.ends[c->place];
         left &= ~node_bit(ends[0] > ends[1] ? ends[0] : ends[1]);
-        branch(&sound, place, true);
-        branch(&broken, place, false);
+        branch(&sound, c->place, true);
+        branch(&broken, c->place, false);
         for (uint64_t links = sound.links; links != 0; links = without_first(links))
             if (sound.ends[first(links)][0] == sound.ends[first(links)][1])
                 remove_link(&sound, first(links));
         for (int v = 0; v < MOST_NODES; v++)
             tally(&sound, v);
     }
-    Figure with = worked(&r, sound, left, limit), without = worked(&r, broken, nodes, limit);
-    put_difference(answer, with, without, false);
+    Figure with = worked(&r, sound, left, c->limit), without = worked(&r, broken, nodes, c->limit);
+    put_difference(c->answer, with, without, false);
     return 0;
 }
 
-uint64_t in_c_difference(long slip, const uint8_t *plan_a, size_t plan_a_len, const uint8_t *plan_b, size_t plan_b_len,
-                         uint64_t limit, uint8_t *answer, size_t answer_len)
+static uint64_t in_c_difference(long slip, const struct call *c)
 {
     struct run r = {.slip = slip};
-    uint64_t refused = asked(plan_a, plan_a_len, limit, answer_len);
+    uint64_t refused = asked(c);
     if (refused != 0)
         return refused;
-    refused = proved_check(plan_b, plan_b_len);
+    refused = proved_check(c->b, c->b_len);
     if (refused != 0)
         return refused + 20;
-    Figure a = worked(&r, network_of(slip_in(slip, IN_PLAN_A), plan_a), nodes_of(plan_a), limit);
-    Figure b = worked(&r, network_of(slip_in(slip, IN_PLAN_B), plan_b), nodes_of(plan_b), limit);
-    put_difference(answer, a, b, true);
+    Figure a = worked(&r, network_of(slip_in(slip, IN_PLAN_A), c, c->a), nodes_of(c->a), c->limit);
+    Figure b = worked(&r, network_of(slip_in(slip, IN_PLAN_B), c, c->b), nodes_of(c->b), c->limit);
+    put_difference(c->answer, a, b, true);
     return 0;
 }
 
@@ -447,35 +466,50 @@ static bool has_first_link(const struct run *r, Network g)
     return !traced(&largest, g, 1);
 }
 
-uint64_t in_c_sitting(long slip, const uint8_t *plan, size_t plan_len, uint64_t limit, const uint8_t *saved, size_t saved_len,
-                      uint8_t *answer, size_t answer_len, uint8_t *work, size_t work_len)
+static uint64_t in_c_sitting(long slip, const struct call *c)
 {
     struct run r = {.slip = slip};
-    uint64_t refused = asked(plan, plan_len, limit, work_len < 776 ? 0 : answer_len);
+    uint64_t refused = asked(c);
     if (refused != 0)
         return refused;
-    if (!well_formed(&r, saved, saved_len))
+    if (!well_formed(&r, c->b, c->b_len))
         return 10;
     long place = r.count > 0 && slip / 100 == IN_CARRIED ? IN_CARRIED : IN_SITTING;
-    Network g = network_of(slip_in(slip, place), plan);
+    Network g = network_of(slip_in(slip, place), c, c->a);
     count_links(&r, &g);
-    if (!traced(&r, g, nodes_of(plan)))
+    if (!traced(&r, g, nodes_of(c->a)))
         return 11;
-    if (saved[2] == 1) {
-        memcpy(answer, saved + 8, 16);
-        memmove(work, saved, 24);
+    if (c->b[2] == 1) {
+        memcpy(c->answer, c->b + 8, 16);
+        memmove(c->work, c->b, 24);
         return 0;
     }
-    uint64_t before = word(saved + 4), most = MOST_STEPS - before;
+    uint64_t before = word(c->b + 4), most = MOST_STEPS - before;
     bool old = has_first_link(&r, g);
     r.carried = r.count > 0;
     if (slip == OLD_STARTS_OVER && old)
         r.count = 0;
     if (slip == OLD_BY_FIRST && old)
         r.slip = ALL_BY_FIRST;
-    Figure f = worked(&r, g, nodes_of(plan), limit < most ? limit : most);
+    Figure f = worked(&r, g, nodes_of(c->a), c->limit < most ? c->limit : most);
     uint64_t steps = slip == STEPS_FORGOTTEN || (slip == OLD_STEPS_FORGOTTEN && old) ? f.steps : before + f.steps;
-    put_answer(answer, f.low, f.high, steps, f.finished);
-    put_work(&r, work, answer, steps, f.finished);
+    put_answer(c->answer, f.low, f.high, steps, f.finished);
+    put_work(&r, c->work, c->answer, steps, f.finished);
     return 0;
+}
+
+uint64_t in_c(long slip, const struct call *c)
+{
+    switch (c->which) {
+    case CHECK:
+        return proved_check(c->a, c->a_len);
+    case FIGURE:
+        return in_c_figure(slip, c);
+    case IMPORTANCE:
+        return in_c_importance(slip, c);
+    case DIFFERENCE:
+        return in_c_difference(slip, c);
+    default:
+        return in_c_sitting(slip, c);
+    }
 }

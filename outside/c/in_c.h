@@ -57,12 +57,21 @@ enum {
 /* A slip of the joints may be made in one place alone, whose number stands before the slip's last two digits. */
 enum { EVERYWHERE, IN_FIGURE, IN_IMPORTANCE, IN_PLAN_A, IN_PLAN_B, IN_SITTING, IN_CARRIED };
 
-uint64_t in_c_figure(long slip, const uint8_t *plan, size_t plan_len, uint64_t limit, uint8_t *answer, size_t answer_len);
-uint64_t in_c_importance(long slip, const uint8_t *plan, size_t plan_len, uint64_t place, uint64_t limit, uint8_t *answer,
-                         size_t answer_len);
-uint64_t in_c_difference(long slip, const uint8_t *plan_a, size_t plan_a_len, const uint8_t *plan_b, size_t plan_b_len,
-                         uint64_t limit, uint8_t *answer, size_t answer_len);
-uint64_t in_c_sitting(long slip, const uint8_t *plan, size_t plan_len, uint64_t limit, const uint8_t *saved, size_t saved_len,
-                      uint8_t *answer, size_t answer_len, uint8_t *work, size_t work_len);
+enum { CHECK, FIGURE, IMPORTANCE, DIFFERENCE, SITTING };
+
+/* Of a sitting b is the saved work. */
+struct call {
+    long which;
+    const uint8_t *a, *b, *table;
+    size_t a_len, b_len, table_len;
+    uint64_t place, limit;
+    uint8_t *answer;
+    size_t room;
+    uint8_t *work;
+    size_t work_room;
+};
+
+/* Makes the call by the rule in C. */
+uint64_t in_c(long slip, const struct call *c);
 
 #endif

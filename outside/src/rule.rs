@@ -113,7 +113,7 @@ pub struct Answer {
 impl From<&Plan> for Network {
     fn from(plan: &Plan) -> Network {
         let link = |l: &crate::plans::Link| {
-            let [low, high] = l.values();
+            let [low, high] = plan.table.values(l);
             let ends = l.ends;
             Link { ends, low, high }
         };

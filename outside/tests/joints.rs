@@ -195,12 +195,12 @@ fn every_length_by_difference() {
 #[test]
 fn every_length_in_a_sitting() {
     for length in lengths() {
-        let file = alone(&length).bytes();
+        let plan = alone(&length);
         let answer = answer_bytes(&at_once(units(length.low), units(length.high)));
         let work = [sizes(0, 1, 0), answer.clone()].concat();
         let expected = Sat { answer, work };
-        assert_eq!(sat(&file, 0, &NOTHING), expected);
-        assert_eq!(sat(&file, MOST_STEPS, &expected.work), expected);
+        assert_eq!(sat(&plan, 0, &NOTHING), expected);
+        assert_eq!(sat(&plan, MOST_STEPS, &expected.work), expected);
     }
 }
 
@@ -235,9 +235,9 @@ fn every_length_at_some_place() {
             assert_eq!(pair(importance(&plan, next, 20)), (low, high));
             assert_eq!(pair(difference(&plan, &none, 20)), (low, high));
             assert_eq!(pair(difference(&none, &plan, 20)), (-high, -low));
-            let first = sat(&plan.bytes(), 1, &NOTHING);
+            let first = sat(&plan, 1, &NOTHING);
             assert!(!sat_answer(&first).finished);
-            let rest = sat(&plan.bytes(), 20, &first.work);
+            let rest = sat(&plan, 20, &first.work);
             assert_eq!(pair(sat_answer(&rest)), (low, high));
         }
     }
@@ -294,7 +294,7 @@ fn values_in_units_have_no_joint() {
         for value in [length.rating, length.low, length.high] {
             let (plan, value) = (between(&[value as u32]), units(value));
             assert_eq!(figure(&plan, 0), at_once(value, value));
-            let sat = sat(&plan.bytes(), 0, &NOTHING);
+            let sat = sat(&plan, 0, &NOTHING);
             assert_eq!(sat_answer(&sat), at_once(value, value));
         }
     }

@@ -1,0 +1,82 @@
+//! Tables of ratings by length: the built-in one, and those of buyers.
+
+use crate::arithmetic::{joints, ratings, S, SIDES};
+use crate::calls::number;
+use crate::plans::Link;
+use std::sync::{Arc, LazyLock};
+
+/// The values of a table.
+pub const COUNT: usize = 512;
+
+static RATINGS: LazyLock<Vec<u32>> = LazyLock::new(ratings);
+
+/// What the lengths of a plan are rated by.
+#[derive(Clone, Debug, Default, PartialEq, Eq)]
+pub enum Table {
+    #[default]
+    BuiltIn,
+    Buyers(Arc<[u32]>),
+}
+
+impl Table {
+    /// A buyer's table of these values.
+    pub fn of(values: &[u32]) -> Table {
+        Table::Buyers(values.into())
+    }
+
+    /// The table that the bytes mean, or rows 12 and 13.
+    pub fn read(bytes: &[u8]) -> Result<Table, u64> {
+        if bytes.is_empty() {
+            return Ok(Table::BuiltIn);
+        }
+        if bytes.len() != 4 * COUNT {
+            return Err(12);
+        }
+        let values: Vec<u32> = bytes.chunks(4).map(number).collect();
+        let rises = values.windows(2).any(|pair| pair[0] < pair[1]);
+        if values[0] != S || rises {
+            return Err(13);
+        }
+        Ok(Table::of(&values))
+    }
+
+    /// None of the built-in one.
+    pub fn bytes(&self) -> Vec<u8> {
+        match self {
+            Table::BuiltIn => Vec::new(),
+            Table::Buyers(values) => bytes(values),
+        }
+    }
+
+    /// The rating of a length; none of a value in units.
+    pub fn rating(&self, link: &Link) -> Option<u32> {
+        let length = link.length()? as usize;
+        Some(match self {
+            Table::BuiltIn => RATINGS[length],
+            Table::Buyers(values) => values[length],
+        })
+    }
+
+    /// The low and the high value in units: of a length with its two joints, of a value in units that value.
+    pub fn values(&self, link: &Link) -> [u32; 2] {
+        match self.rating(link) {
+            Some(rating) => SIDES.map(|side| joints(side, rating)),
+            None => [link.value; 2],
+        }
+    }
+}
+
+/// The bytes of a table of these values, right or wrong.
+pub fn bytes(values: &[u32]) -> Vec<u8> {
+    values
+        .iter()
+        .flat_map(|value| value.to_le_bytes())
+        .collect()
+}
+
+/// What is asked, and the table that it is asked under: no bytes for the built-in one.
+#[derive(Clone, Copy, Debug)]
+pub struct Under<'a, Asked> {
+    pub asked: Asked,
+    pub table: &'a [u8],
+}
