@@ -21,7 +21,7 @@
    table that is accepted.
 
    Each call returns 0 if it is accepted, and otherwise the number of the first cause of refusal that it meets, in the order
-   of this table. A refused call leaves the whole answer buffer as it was, and the whole work buffer.
+   of this list. A refused call leaves the whole answer buffer as it was, and the whole work buffer.
 
      7             the limit is above 1,000,000
      9             the answer buffer is under 16 bytes, or the work buffer under 776

@@ -7,6 +7,7 @@ use crate::rule::{needed, Answer, Choice, Network};
 use crate::sittings::{self, Sat, Sitting, NOTHING, WORK};
 use crate::states::{widest, widest_difference, widest_importance, Exact};
 use crate::tables::Table;
+use std::cmp::Ordering;
 
 /// The answer of an accepted call.
 fn answer(call: Call, table: &Table) -> Answer {
@@ -86,6 +87,13 @@ pub fn hold(exact: &Exact, answers: &[Answer], widest: i64) {
         assert!(is_narrow(answer, widest), "{answer:?} {widest}");
     }
     hold_nested(answers);
+}
+
+/// A finished answer of an exact number that is no whole one, by the whole one below it.
+pub fn hold_between(exact: &Exact, floor: i64, answer: &Answer) {
+    assert_eq!(exact.compared(floor), Ordering::Greater, "{floor}");
+    assert_eq!(exact.compared(floor + 1), Ordering::Less, "{floor}");
+    assert!(answer.finished && answer.low <= floor && floor < answer.high);
 }
 
 fn answers(needed: u64, worked: impl Fn(u64) -> Answer) -> Vec<Answer> {

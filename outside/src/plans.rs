@@ -48,6 +48,27 @@ impl Plan {
         self
     }
 
+    /// Two nodes and links of these values between them.
+    pub fn between(values: &[u32]) -> Plan {
+        let links: Vec<(u8, u8, u32)> = values.iter().map(|value| (0, 1, *value)).collect();
+        Plan::new(2, &links)
+    }
+
+    /// A plan of so many links, at least 13, in which all hangs on the one at this place, of a length: five nodes are joined each to
+    /// each by links of S, the length leads to a sixth, the next link, of S, from there to a seventh; the others are loops of the same
+    /// length.
+    pub fn hanging_on(length: u32, place: usize, count: usize) -> Plan {
+        let next = (place + 1) % count;
+        let mut links = vec![(0, 0, LENGTH + length); count];
+        let mut others = (0..count).filter(|other| ![place, next].contains(other));
+        for [a, b] in every_pair(5) {
+            links[others.next().unwrap()] = (a, b, S);
+        }
+        links[place] = (0, 5, LENGTH + length);
+        links[next] = (5, 6, S);
+        Plan::new(7, &links)
+    }
+
     /// Links of one value between the given ends.
     pub fn alike(nodes: u16, value: u32, ends: &[[u8; 2]]) -> Plan {
         let links: Vec<(u8, u8, u32)> = ends.iter().map(|[a, b]| (*a, *b, value)).collect();

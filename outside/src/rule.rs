@@ -330,6 +330,18 @@ pub fn needed_by(choice: Choice, network: Network) -> u64 {
     }
 }
 
+impl Answer {
+    /// A finished one that takes no split.
+    pub fn at_once(low: i64, high: i64) -> Answer {
+        Answer {
+            low,
+            high,
+            steps: 0,
+            finished: true,
+        }
+    }
+}
+
 impl From<Figure> for Answer {
     fn from(figure: Figure) -> Answer {
         Answer {

@@ -1,8 +1,9 @@
 //! Tables of ratings by length: the built-in one, and those of buyers.
 
-use crate::arithmetic::{joints, ratings, S, SIDES};
+use crate::arithmetic::{joints, product, ratings, Side, S, SIDES};
 use crate::calls::number;
 use crate::plans::Link;
+use crate::random::Random;
 use std::sync::{Arc, LazyLock};
 
 /// The values of a table.
@@ -40,6 +41,36 @@ impl Table {
         Ok(Table::of(&values))
     }
 
+    /// A buyer's table that is accepted: straight down to 0, falling fast, by a few units or in steps, near the built-in one, or S up to
+    /// some place.
+    pub fn random(random: &mut Random) -> Table {
+        let kind = random.below(6);
+        let place = random.below(COUNT);
+        let left = random.up_to(S.into()) as u32;
+        let mut values = vec![S];
+        for k in 1..COUNT {
+            let before = values[k - 1];
+            let less = |by: usize| before.saturating_sub(by as u32);
+            values.push(match kind {
+                0 => S - (u64::from(S) * k as u64 / 511) as u32,
+                1 => product(Side::Low, before, S - left / 10),
+                2 => less(random.below(3)),
+                3 if random.below(20) > 0 => before,
+                3 => random.up_to(before.into()) as u32,
+                4 => product(Side::Low, before, S - left / 2_000),
+                _ if k < place => S,
+                _ => left,
+            });
+        }
+        Table::of(&values)
+    }
+
+    /// A buyer's table of which each value tells its place: none is another's, nor the built-in one but for the first.
+    pub fn telling() -> Table {
+        let values: Vec<u32> = (0..COUNT as u32).map(|k| S - 1_234_567 * k).collect();
+        Table::of(&values)
+    }
+
     /// None of the built-in one.
     pub fn bytes(&self) -> Vec<u8> {
         match self {
@@ -64,6 +95,11 @@ impl Table {
             None => [link.value; 2],
         }
     }
+}
+
+/// The values of the built-in table.
+pub fn built_in() -> &'static [u32] {
+    &RATINGS
 }
 
 /// The bytes of a table of these values, right or wrong.

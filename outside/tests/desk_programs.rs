@@ -8,7 +8,7 @@ use outside::programs::{compiled, ran};
 use outside::random::Random;
 use outside::rule::{Choice, CHOICES};
 use outside::sittings::{self, Sitting, NOTHING, WORK};
-use outside::tables::Under;
+use outside::tables::{Table, Under};
 use std::fs::{self, File};
 use std::path::{Path, PathBuf};
 use std::process::Command;
@@ -158,6 +158,33 @@ fn the_largest_plans_under_a_memory_checker() {
         .map(|(call, room)| trial(&call, room))
         .collect();
     checked(&calls, "largest");
+}
+
+/// Tables that are right, and the same damaged: bytes changed, cut and lengthened. The plans are right, with lengths, and the files too
+/// short for a plan.
+#[test]
+fn tables_under_a_memory_checker() {
+    let mut random = Random::new(44);
+    let mut trials = Vec::new();
+    let mut plan = || Plan::small_of_lengths(&mut random, 10).bytes();
+    let plans = [plan(), plan(), plan(), vec![2, 0]];
+    for table in [Table::telling(), Table::random(&mut random)] {
+        let mut tables = vec![table.bytes(); 20];
+        let damaged = damaged(&mut random, &table.bytes());
+        tables.extend(damaged.into_iter().step_by(11));
+        for table in &tables {
+            let [a, b] = [(); 2].map(|()| &plans[random.below(plans.len())]);
+            let call = any_call(&mut random, a, b);
+            let room = 16 - random.below(10) / 9;
+            trials.push(trial(call.under(table), room));
+            let (plan, limit, saved) = (a, random.up_to(12), &NOTHING);
+            let sitting = Sitting { plan, limit, saved };
+            let rooms = rooms(&mut random);
+            trials.push(trial_of_sitting(sitting.under(table), rooms));
+        }
+    }
+    assert!(trials.len() > 3_000, "too few: {}", trials.len());
+    checked(&trials, "tables");
 }
 
 /// The work of a first sitting by either choice.
