@@ -1,5 +1,5 @@
-/* The figure, the importance, the difference and the sitting by the rule in C, with one slip of the choice or of the joints or
-   none: what the kinds of c/slips.c from 90 on put in the place of the library. Nothing is proved of it. That it passes all tests
+/* The figure, the importance, the difference and the sitting by the rule in C, with one slip of the choice, of the joints or of
+   the table, or none: what the kinds of c/slips.c from 90 on put in the place of the library. Nothing is proved of it. That it passes all tests
    without a slip is tried before the slips are. */
 
 #include "in_c.h"
@@ -43,21 +43,84 @@ static long slip_in(long slip, long place)
     return slip / 100 == EVERYWHERE || slip / 100 == place ? slip % 100 : NO_SLIP;
 }
 
-/* By the table, or the built-in one where that is NULL. */
-static uint32_t rating(const uint8_t *table, uint32_t length)
+static uint32_t built_in(uint32_t length)
 {
     uint64_t chance = S;
-    if (table != NULL)
-        return word(table + 4 * length);
     while (length-- > 0)
         chance = chance * 999700000 / S;
     return chance;
 }
 
-/* Whether a slip leaves link i of m without joints. */
-static bool is_bare(long slip, uint32_t value, int i, int m)
+/* The value of a length in a buyer's table. */
+static uint32_t table_value(long slip, const uint8_t *table, uint32_t length)
+{
+    length += slip == NEXT_VALUE && length < 511;
+    length -= slip == VALUE_BEFORE && length > 0;
+    uint32_t value = word(table + 4 * (slip == LENGTHS_TO_255 ? length % 256 : length));
+    switch (slip) {
+    case HIGHEST_BYTE_FIRST:
+        value = __builtin_bswap32(value);
+        return value < S ? value : S;
+    case THREE_BYTES:
+        return value & 0xffffff;
+    case VALUE_LESS:
+        return value - (value > 0);
+    default:
+        return value;
+    }
+}
+
+/* A link that is given by length, its place among the plan's m links, and which of its values is worked out. */
+struct length {
+    uint32_t k;
+    int i, m;
+    bool is_high;
+};
+
+/* Whether a slip takes the built-in value in the place of this one. */
+static bool is_built_in(long slip, uint32_t value, const struct length *of)
 {
     switch (slip) {
+    case BUILT_IN_AT_1:
+        return of->k == 1;
+    case BUILT_IN_AT_511:
+        return of->k == 511;
+    case BUILT_IN_FROM_256:
+        return of->k >= 256;
+    case BUILT_IN_FOR_0:
+        return value == 0;
+    case BUILT_IN_IF_LESS:
+        return built_in(of->k) < value;
+    case BUILT_IN_IF_MORE:
+        return built_in(of->k) > value;
+    case BUILT_IN_FOR_LOW:
+        return !of->is_high;
+    case BUILT_IN_FOR_HIGH:
+        return of->is_high;
+    case BUILT_IN_AT_FIRST:
+        return of->i == 0;
+    case BUILT_IN_AT_LAST:
+        return of->i == of->m - 1;
+    default:
+        return slip == TABLE_IGNORED;
+    }
+}
+
+/* By the table, or the built-in one where that is NULL. */
+static uint32_t rating(long slip, const uint8_t *table, const struct length *of)
+{
+    if (table == NULL)
+        return built_in(of->k);
+    uint32_t value = table_value(slip, table, of->k);
+    return is_built_in(slip, value, of) ? built_in(of->k) : value;
+}
+
+/* Whether a slip leaves link i of m without joints. */
+static bool is_bare(long slip, const uint8_t *table, uint32_t value, int i, int m)
+{
+    switch (slip) {
+    case TABLE_BARE:
+        return table != NULL;
     case NO_JOINTS_AT_0:
         return value == LENGTH;
     case NO_JOINTS_AT_1:
@@ -76,9 +139,11 @@ static bool is_bare(long slip, uint32_t value, int i, int m)
 }
 
 /* How many joints a length has. */
-static int joints_of(long slip, bool is_high)
+static int joints_of(long slip, const uint8_t *table, bool is_high)
 {
     switch (slip) {
+    case TABLE_ONE_JOINT:
+        return table != NULL ? 1 : 2;
     case ONE_JOINT:
         return 1;
     case THREE_JOINTS:
@@ -101,12 +166,12 @@ static bool rounds_up(long slip, bool is_high, bool is_first)
 }
 
 /* The chance with its joints. */
-static uint32_t with_joints(long slip, uint64_t chance, bool is_high)
+static uint32_t with_joints(long slip, const uint8_t *table, uint64_t chance, bool is_high)
 {
     uint64_t joint = JOINT - (slip == JOINT_LESS) + (slip == JOINT_MORE);
     if (slip == ROUNDED_ONCE)
         return ((wide)chance * JOINT * JOINT + (is_high ? S * S - 1 : 0)) / (S * S);
-    for (int i = 0; i < joints_of(slip, is_high); i++)
+    for (int i = 0; i < joints_of(slip, table, is_high); i++)
         chance = rounds_up(slip, is_high, i == 0) ? up(chance * joint) : down(chance * joint);
     return chance;
 }
@@ -114,17 +179,20 @@ static uint32_t with_joints(long slip, uint64_t chance, bool is_high)
 /* The low and the high value of link i of m. */
 static Pair values_of(long slip, const uint8_t *table, uint32_t value, int i, int m)
 {
-    uint32_t chance = value < LENGTH ? value : rating(table, value - LENGTH);
-    if (is_bare(slip, value, i, m) || (value < LENGTH && slip != JOINTS_ON_UNITS))
-        return (Pair){chance, chance};
-    uint32_t low = with_joints(slip, chance, false), high = with_joints(slip, chance, true);
+    struct length of_low = {value - LENGTH, i, m, false}, of_high = {value - LENGTH, i, m, true};
+    uint32_t low = value < LENGTH ? value : rating(slip, table, &of_low);
+    uint32_t high = value < LENGTH ? value : rating(slip, table, &of_high);
+    if (is_bare(slip, table, value, i, m) || (value < LENGTH && slip != JOINTS_ON_UNITS))
+        return (Pair){low, high};
+    low = with_joints(slip, table, low, false);
+    high = with_joints(slip, table, high, true);
     return (Pair){slip == HIGH_FOR_BOTH ? high : low, slip == LOW_FOR_BOTH ? low : high};
 }
 
 /* An accepted plan's network, under the table of an accepted call. */
 static Network network_of(long slip, const struct call *c, const uint8_t *plan)
 {
-    const uint8_t *table = c->table_len == 0 ? NULL : c->table;
+    const uint8_t *table = c->table_len < 2048 ? NULL : c->table;
     Network g = {0};
     int m = plan[2];
     for (int i = 0; i < m; i++) {
@@ -341,34 +409,146 @@ static void put_answer(uint8_t *answer, int64_t low, int64_t high, uint64_t step
     put(answer + 12, finished);
 }
 
-/* Checks 12 and 13. */
-static uint64_t table_refused(const uint8_t *table, size_t table_len)
+/* Whether plan A has a length; it may be any bytes. */
+static bool has_length(const struct call *c)
 {
-    if (table_len == 0)
-        return 0;
-    if (table_len != 2048)
-        return 12;
-    bool right = word(table) == S;
-    for (int k = 1; k < 512; k++)
-        right = right && word(table + 4 * k) <= word(table + 4 * k - 4);
-    return right ? 0 : 13;
+    size_t m = c->a_len < 4 ? 0 : c->a[2];
+    for (size_t i = 0; i < m && 4 + 2 * m + 4 * i + 4 <= c->a_len; i++)
+        if (word(c->a + 4 + 2 * m + 4 * i) >= LENGTH)
+            return true;
+    return false;
 }
 
-/* The checks up to those of plan A. */
-static uint64_t asked(const struct call *c)
+/* Whether a table may have so many bytes. */
+static bool is_right_length(long slip, const struct call *c)
 {
-    if (c->limit > MOST_STEPS)
-        return 7;
-    if (c->room < 16 || (c->which == SITTING && c->work_room < 776))
-        return 9;
-    uint64_t refused = table_refused(c->table, c->table_len);
-    return refused != 0 ? refused : proved_check(c->a, c->a_len);
+    size_t length = c->table_len;
+    switch (slip) {
+    case ANY_LENGTH:
+        return true;
+    case LONGER_TABLE:
+        return length == 0 || length >= 2048;
+    case ONE_BYTE_MORE:
+        return length == 0 || length == 2048 || length == 2049;
+    case REST_OF_A_VALUE:
+        return length == 0 || length / 4 == 512;
+    case TWICE_AS_LONG:
+        return length == 0 || length == 2048 || length == 4096;
+    case REST_ALONE:
+        return length < 4 || length == 2048;
+    case EMPTY_REFUSED:
+        return length == 2048;
+    case IF_LENGTHS_12:
+        return length == 0 || length == 2048 || !has_length(c);
+    default:
+        return length == 0 || length == 2048;
+    }
+}
+
+static bool is_right_first(long slip, uint32_t value)
+{
+    return value == S || slip == FIRST_UNTESTED || (slip == FIRST_MORE && value == S + 1) || (slip == FIRST_LESS && value < S);
+}
+
+/* Whether value k may stand behind the one before. */
+static bool is_right_next(long slip, uint32_t before, uint32_t value, int k)
+{
+    switch (slip) {
+    case RISE_AT_1:
+        return value <= before || k == 1;
+    case RISE_AT_256:
+        return value <= before || k == 256;
+    case RISE_AT_511:
+        return value <= before || k == 511;
+    case RISES_UNTESTED:
+        return true;
+    case RISE_OF_1:
+        return value <= before || value == before + 1;
+    case RISES_TO_S:
+        return value <= S;
+    case SIGNED_VALUES:
+        return (int32_t)value <= (int32_t)before;
+    case EQUAL_REFUSED:
+        return value < before;
+    case ZERO_REFUSED:
+        return value <= before && value > 0;
+    default:
+        return value <= before;
+    }
+}
+
+/* Check 13 of a table of 2,048 bytes or more. */
+static uint64_t values_refused(long slip, const struct call *c)
+{
+    if (c->table_len < 2048 || (slip == IF_LENGTHS_13 && !has_length(c)))
+        return 0;
+    if (!is_right_first(slip, word(c->table)))
+        return 13;
+    for (int k = 1; k < 512; k++)
+        if (!is_right_next(slip, word(c->table + 4 * k - 4), word(c->table + 4 * k), k))
+            return slip == PLACE_NAMED ? 13 + 256 * k : 13;
+    return 0;
+}
+
+static bool is_complete(const struct call *c)
+{
+    return c->which == SITTING && c->b_len == 24 && c->b[2] == 1;
+}
+
+/* Checks 12 and 13. */
+static uint64_t table_refused(long slip, const struct call *c)
+{
+    if (slip == NOT_IF_COMPLETE && is_complete(c))
+        return 0;
+    return is_right_length(slip, c) ? values_refused(slip, c) : 12;
+}
+
+/* The place of a call for its slips; of a difference that of plan A. */
+static long place_of_call(const struct call *c)
+{
+    static const long places[] = {0, IN_FIGURE, IN_IMPORTANCE, IN_PLAN_A, IN_SITTING};
+    return places[c->which];
+}
+
+static uint64_t first_of(uint64_t one, uint64_t other)
+{
+    return one != 0 ? one : other;
+}
+
+/* The checks up to those of plan A, and those of the table, wherever a slip puts them. */
+static uint64_t asked(long slip, const struct call *c)
+{
+    slip = slip_in(slip, place_of_call(c));
+    uint64_t limit = c->limit > MOST_STEPS ? 7 : 0, room = c->room < 16 ? 9 : 0;
+    uint64_t table = table_refused(slip, c), plan = proved_check(c->a, c->a_len);
+    if (c->which == SITTING && c->work_room < 776)
+        room = 9;
+    switch (slip) {
+    case TABLE_BEFORE_7:
+        return first_of(table, first_of(limit, first_of(room, plan)));
+    case TABLE_BEFORE_9:
+        return first_of(limit, first_of(table, first_of(room, plan)));
+    case TABLE_AFTER_PLAN:
+        return first_of(limit, first_of(room, first_of(plan, table)));
+    case ONLY_13_AFTER_PLAN:
+        return first_of(limit, first_of(room, table == 12 ? 12 : first_of(plan, table)));
+    case TABLE_LAST:
+        return first_of(limit, first_of(room, plan));
+    default:
+        return first_of(limit, first_of(room, first_of(table, plan)));
+    }
+}
+
+/* What the table is refused with where a slip tests it behind all else. */
+static uint64_t asked_last(long slip, const struct call *c)
+{
+    return slip_in(slip, place_of_call(c)) == TABLE_LAST ? table_refused(slip, c) : 0;
 }
 
 static uint64_t in_c_figure(long slip, const struct call *c)
 {
     struct run r = {.slip = slip};
-    uint64_t refused = asked(c);
+    uint64_t refused = first_of(asked(slip, c), asked_last(slip, c));
     if (refused != 0)
         return refused;
     Figure f = worked(&r, network_of(slip_in(slip, IN_FIGURE), c, c->a), nodes_of(c->a), c->limit);
@@ -385,9 +565,11 @@ static void put_difference(uint8_t *answer, Figure a, Figure b, bool signed_low)
 static uint64_t in_c_importance(long slip, const struct call *c)
 {
     struct run r = {.slip = slip};
-    uint64_t refused = asked(c);
-    if (refused != 0 || c->place >= c->a[2])
-        return refused != 0 ? refused : 8;
+    uint64_t refused = asked(slip, c);
+    if (refused == 0)
+        refused = c->place >= c->a[2] ? 8 : asked_last(slip, c);
+    if (refused != 0)
+        return refused;
     Network broken = network_of(slip_in(slip, IN_IMPORTANCE), c, c->a), sound = broken;
     uint32_t nodes = nodes_of(c->a), left = nodes;
     if (broken.links & link_bit(c->place)) {
@@ -409,12 +591,15 @@ static uint64_t in_c_importance(long slip, const struct call *c)
 static uint64_t in_c_difference(long slip, const struct call *c)
 {
     struct run r = {.slip = slip};
-    uint64_t refused = asked(c);
+    uint64_t refused = asked(slip, c);
     if (refused != 0)
         return refused;
     refused = proved_check(c->b, c->b_len);
     if (refused != 0)
         return refused + 20;
+    refused = asked_last(slip, c);
+    if (refused != 0)
+        return refused;
     Figure a = worked(&r, network_of(slip_in(slip, IN_PLAN_A), c, c->a), nodes_of(c->a), c->limit);
     Figure b = worked(&r, network_of(slip_in(slip, IN_PLAN_B), c, c->b), nodes_of(c->b), c->limit);
     put_difference(c->answer, a, b, true);
@@ -469,7 +654,7 @@ static bool has_first_link(const struct run *r, Network g)
 static uint64_t in_c_sitting(long slip, const struct call *c)
 {
     struct run r = {.slip = slip};
-    uint64_t refused = asked(c);
+    uint64_t refused = asked(slip, c);
     if (refused != 0)
         return refused;
     if (!well_formed(&r, c->b, c->b_len))
@@ -479,6 +664,9 @@ static uint64_t in_c_sitting(long slip, const struct call *c)
     count_links(&r, &g);
     if (!traced(&r, g, nodes_of(c->a)))
         return 11;
+    refused = asked_last(slip, c);
+    if (refused != 0)
+        return refused;
     if (c->b[2] == 1) {
         memcpy(c->answer, c->b + 8, 16);
         memmove(c->work, c->b, 24);

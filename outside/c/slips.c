@@ -3,8 +3,9 @@
 
    SLIP is the number of a kind and eight more numbers. Of kinds 0 and 1: the call (0 check, 1 figure, 2 importance,
    3 difference, 4 sitting), what is wrong, by how much; and where: of an answer (kind 0) the least and the most links, whether
-   it is finished, the least and the most steps; of a refusal (kind 1) its number without the link. Of kinds 70 to 83 the
-   call, and of kind 76 a count. Of kind 90 a slip of the choice or of the joints, made in calls in C. Of other kinds: none. */
+   it is finished, the least and the most steps; of a refusal (kind 1) its number without the link. Of kinds 70 to 84 the
+   call, and of kind 76 a count. Of kind 90 a slip of the choice, of the joints or of the table, made in calls in C. Of other
+   kinds: none. */
 
 #include "in_c.h"
 #include "plandesk.h"
@@ -163,6 +164,34 @@ static uint64_t kept(struct call *c)
     memcpy(plan, c->a, c->a_len);
     sched_yield();
     c->a = plan;
+    return proved(c);
+}
+
+/* The same of the table. */
+static uint64_t table_kept(struct call *c)
+{
+    static uint8_t table[2048];
+    if (c->table_len != sizeof table)
+        return proved(c);
+    memcpy(table, c->table, sizeof table);
+    sched_yield();
+    c->table = table;
+    return proved(c);
+}
+
+/* The last table serves where there is none. */
+static uint64_t last_table(struct call *c)
+{
+    static uint8_t table[2048];
+    static size_t length;
+    if (c->table_len == sizeof table && proved(c) == 0) {
+        memcpy(table, c->table, sizeof table);
+        length = sizeof table;
+    }
+    if (c->table_len == 0) {
+        c->table = table;
+        c->table_len = length;
+    }
     return proved(c);
 }
 
@@ -387,6 +416,10 @@ static uint64_t otherwise(struct call *c, const long *s)
         c->b = proved_check(c->b, c->b_len) == 0 ? c->a : c->b;
         c->b_len = c->b == c->a ? c->a_len : c->b_len;
         return proved(c);
+    case 25: /* the table is kept where other threads keep theirs */
+        return table_kept(c);
+    case 26: /* the last table serves where there is none */
+        return last_table(c);
     default:
         return proved(c);
     }
@@ -486,6 +519,12 @@ static void narrowed(struct call *c, long kind)
         c->b_len &= 0x1ffff;
     if (kind == 75) /* plan B's or the saved work's, in 10 bits */
         c->b_len &= 0x3ff;
+    if (kind == 77) /* the table's, in 16 bits */
+        c->table_len &= 0xffff;
+    if (kind == 78) /* the table's, in 12 bits */
+        c->table_len &= 0xfff;
+    if (kind == 79) /* the table's, in 11 bits */
+        c->table_len &= 0x7ff;
 }
 
 /* The place of the last of more than so many open splits is not tested. */
@@ -503,11 +542,11 @@ static uint64_t with_the_last_place(struct call *c, size_t most)
 /* Whether what such a kind says lies at an odd address. */
 static int is_odd(const struct call *c, long kind)
 {
-    const uint8_t *at[] = {c->a, c->b, c->answer, c->work};
-    return 80 <= kind && kind <= 83 && (uintptr_t)at[kind - 80] % 2 == 1;
+    const uint8_t *at[] = {c->a, c->b, c->answer, c->work, c->table_len > 0 ? c->table : NULL};
+    return 80 <= kind && kind <= 84 && (uintptr_t)at[kind - 80] % 2 == 1;
 }
 
-/* Kinds 70 to 83, of one call. */
+/* Kinds 70 to 84, of one call. */
 static uint64_t of_one_call(struct call *c, const long *s)
 {
     if (c->which != s[1])

@@ -6,15 +6,14 @@ use crate::plans::Link;
 use crate::random::Random;
 use std::sync::{Arc, LazyLock};
 
-/// The values of a table.
+/// How many values a table has.
 pub const COUNT: usize = 512;
 
 static RATINGS: LazyLock<Vec<u32>> = LazyLock::new(ratings);
 
 /// What the lengths of a plan are rated by.
-#[derive(Clone, Debug, Default, PartialEq, Eq)]
+#[derive(Clone, Debug, PartialEq, Eq)]
 pub enum Table {
-    #[default]
     BuiltIn,
     Buyers(Arc<[u32]>),
 }
@@ -50,11 +49,10 @@ impl Table {
         let mut values = vec![S];
         for k in 1..COUNT {
             let before = values[k - 1];
-            let less = |by: usize| before.saturating_sub(by as u32);
             values.push(match kind {
                 0 => S - (u64::from(S) * k as u64 / 511) as u32,
                 1 => product(Side::Low, before, S - left / 10),
-                2 => less(random.below(3)),
+                2 => before - random.below(3) as u32,
                 3 if random.below(20) > 0 => before,
                 3 => random.up_to(before.into()) as u32,
                 4 => product(Side::Low, before, S - left / 2_000),
@@ -79,13 +77,18 @@ impl Table {
         }
     }
 
+    /// The ratings of all lengths.
+    pub fn ratings(&self) -> &[u32] {
+        match self {
+            Table::BuiltIn => &RATINGS,
+            Table::Buyers(values) => values,
+        }
+    }
+
     /// The rating of a length; none of a value in units.
     pub fn rating(&self, link: &Link) -> Option<u32> {
-        let length = link.length()? as usize;
-        Some(match self {
-            Table::BuiltIn => RATINGS[length],
-            Table::Buyers(values) => values[length],
-        })
+        let length = link.length()?;
+        Some(self.ratings()[length as usize])
     }
 
     /// The low and the high value in units: of a length with its two joints, of a value in units that value.
@@ -95,11 +98,6 @@ impl Table {
             None => [link.value; 2],
         }
     }
-}
-
-/// The values of the built-in table.
-pub fn built_in() -> &'static [u32] {
-    &RATINGS
 }
 
 /// The bytes of a table of these values, right or wrong.

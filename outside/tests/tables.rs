@@ -12,7 +12,7 @@ use outside::repository::table as sample;
 use outside::rule::Answer;
 use outside::sittings::{self, sizes, Sat, Sitting, NOTHING, WORK};
 use outside::states::{widest, widest_difference, widest_importance};
-use outside::tables::{built_in, bytes, Table, COUNT};
+use outside::tables::{bytes, Table, COUNT};
 
 /// Four nodes and five links, of which one is a loop.
 fn four_nodes(value: u32) -> Plan {
@@ -20,11 +20,13 @@ fn four_nodes(value: u32) -> Plan {
     Plan::alike(4, value, &ends)
 }
 
-/// What each of the four calls returns under a table, with lengths in its plans and without: one number for all of them.
+/// What each of the four calls returns under a table, with lengths in its plans and without, a sitting from nothing and from complete
+/// work: one number for all of them.
 fn returned(table: &[u8]) -> u64 {
+    let complete = [sizes(0, 1, 3), vec![7; 16]].concat();
     let mut numbers = Vec::new();
     for plan in [four_nodes(LENGTH + 9), four_nodes(S / 2)] {
-        let (plan, place, limit, saved) = (&plan.bytes(), 1, 5, &NOTHING);
+        let (plan, place, limit) = (&plan.bytes(), 1, 5);
         let (a, b) = (plan, plan);
         let calls = [
             Call::Figure { plan, limit },
@@ -33,9 +35,11 @@ fn returned(table: &[u8]) -> u64 {
         ];
         let number = |call: Call| held(call.under(table), 16).err().unwrap_or(0);
         numbers.extend(calls.map(number));
-        let sitting = Sitting { plan, limit, saved };
-        let outcome = sittings::held(sitting.under(table));
-        numbers.push(outcome.err().unwrap_or(0));
+        for saved in [&NOTHING[..], &complete] {
+            let sitting = Sitting { plan, limit, saved };
+            let outcome = sittings::held(sitting.under(table));
+            numbers.push(outcome.err().unwrap_or(0));
+        }
     }
     assert!(numbers.windows(2).all(|two| two[0] == two[1]));
     numbers[0]
@@ -58,22 +62,23 @@ fn every_length_of_a_table() {
     }
 }
 
-/// Values that are accepted: each another one, far from the next or one unit from it; all S; and S alone above 0.
-fn accepted() -> [Vec<u32>; 4] {
-    let telling: Vec<u32> = (0..512).map(|k| S - 1_234_567 * k).collect();
+/// Tables that are accepted: each value another, far from the next or one unit from it; all S; S alone above 0; and the sample.
+fn accepted() -> [Table; 5] {
     let by_one: Vec<u32> = (0..512).map(|k| S - k).collect();
     let mut zeros = vec![0; COUNT];
     zeros[0] = S;
-    [telling, by_one, vec![S; COUNT], zeros]
+    let [by_one, highest, lowest] = [by_one, vec![S; COUNT], zeros].map(|all| Table::of(&all));
+    let armoured = Table::read(&sample("armoured")).unwrap();
+    [Table::telling(), by_one, highest, lowest, armoured]
 }
 
 #[test]
 fn a_rise_at_each_place() {
-    for values in accepted() {
-        assert_eq!(returned(&bytes(&values)), 0);
+    for table in accepted() {
+        assert_eq!(returned(&table.bytes()), 0);
         for k in 1..COUNT {
             for more in [1, 2, 1 << 31] {
-                let mut wrong = values.clone();
+                let mut wrong = table.ratings().to_vec();
                 wrong[k] = wrong[k - 1] + more;
                 assert_eq!(returned(&bytes(&wrong)), 13, "{k} {more}");
             }
@@ -84,9 +89,9 @@ fn a_rise_at_each_place() {
 /// The value at each place made that of the place before, and then all behind it as well.
 #[test]
 fn equal_neighbours_at_each_place() {
-    for values in accepted() {
+    for table in accepted() {
         for k in 1..COUNT {
-            let mut equal = values.clone();
+            let mut equal = table.ratings().to_vec();
             equal[k] = equal[k - 1];
             assert_eq!(returned(&bytes(&equal)), 0, "{k}");
             let level = equal[k];
@@ -112,8 +117,9 @@ fn every_wrong_first_value() {
 /// The bytes of each value the other way round.
 #[test]
 fn a_table_with_the_highest_byte_first() {
-    for values in accepted() {
-        let swapped: Vec<u32> = values.iter().map(|value| value.swap_bytes()).collect();
+    for table in accepted() {
+        let swapped = table.ratings().iter().map(|value| value.swap_bytes());
+        let swapped: Vec<u32> = swapped.collect();
         assert_eq!(returned(&bytes(&swapped)), 13);
     }
 }
@@ -126,21 +132,12 @@ fn stands_for(rating: u32) -> (i64, i64) {
     (low as i64, high.div_ceil(one) as i64)
 }
 
-/// Tables that are accepted, and their values.
-fn all_tables() -> Vec<(Table, Vec<u32>)> {
-    let file = sample("armoured");
-    let value = |four: &[u8]| u32::from_le_bytes(four.try_into().unwrap());
-    let armoured = file.chunks(4).map(value).collect();
-    let all = accepted().into_iter().chain([armoured]);
-    all.map(|values| (Table::of(&values), values)).collect()
-}
-
 #[test]
 fn every_value_alone() {
-    for (table, values) in all_tables() {
-        for (k, rating) in (0..).zip(values) {
+    for table in accepted() {
+        for (k, rating) in (0..).zip(table.ratings()) {
             let plan = Plan::between(&[LENGTH + k]).under(&table);
-            let (low, high) = stands_for(rating);
+            let (low, high) = stands_for(*rating);
             let expected = Answer::at_once(low, high);
             assert_eq!(figure(&plan, 0), expected, "{k}");
             assert_eq!(figure(&plan, MOST_STEPS), expected, "{k}");
@@ -157,10 +154,10 @@ fn every_value_alone() {
 #[test]
 fn every_value_by_importance() {
     let whole = i64::from(S);
-    for (table, values) in all_tables() {
-        for (k, rating) in (0..).zip(values) {
+    for table in accepted() {
+        for (k, rating) in (0..).zip(table.ratings()) {
             let plan = Plan::between(&[S / 10 * 9, LENGTH + k]).under(&table);
-            let (low, high) = stands_for(rating);
+            let (low, high) = stands_for(*rating);
             let left = Answer::at_once(whole - high, whole - low);
             assert_eq!(importance(&plan, 0, 3), left, "{k}");
             let tenth = Answer::at_once(whole / 10, whole / 10);
@@ -172,11 +169,12 @@ fn every_value_by_importance() {
 /// Each length in plan A against another in plan B, both by the one table, and each against a value in units.
 #[test]
 fn every_value_by_difference() {
-    for (table, values) in all_tables() {
-        for (k, rating) in (0..512).zip(&values) {
+    for table in accepted() {
+        let ratings = table.ratings();
+        for (k, rating) in (0..512).zip(ratings) {
             let other = (7 * k + 100) % 512;
             let (low, high) = stands_for(*rating);
-            let (other_low, other_high) = stands_for(values[other as usize]);
+            let (other_low, other_high) = stands_for(ratings[other as usize]);
             let plans = [LENGTH + k, LENGTH + other, S / 2];
             let [a, b, half] = plans.map(|value| Plan::between(&[value]).under(&table));
             let minus = Answer::at_once(low - other_high, high - other_low);
@@ -197,7 +195,7 @@ fn every_value_at_some_place() {
     let pair = |answer: Answer| (answer.low, answer.high);
     let table = Table::telling();
     let none = Plan::between(&[0]).under(&table);
-    for (k, rating) in accepted()[0].iter().enumerate() {
+    for (k, rating) in table.ratings().iter().enumerate() {
         let (low, high) = stands_for(*rating);
         let count = 13 + k % 52;
         for place in [0, k % count, count - 1] {
@@ -286,7 +284,7 @@ fn all_answers(plan: &Plan, other: &Plan, limit: u64) -> (Vec<Answer>, Vec<Sat>)
 #[test]
 fn the_built_in_table_as_bytes() {
     let mut random = Random::new(173);
-    let table = Table::of(built_in());
+    let table = Table::of(Table::BuiltIn.ratings());
     assert_eq!(table.bytes().len(), 2_048);
     for _ in 0..60 {
         let mut plan = || any_plan(&mut random, 24).under(&Table::BuiltIn);
@@ -318,7 +316,7 @@ fn plans_without_lengths() {
 /// The same call under one table after the other, and under none: each is by its own.
 #[test]
 fn tables_in_turns() {
-    let mut tables: Vec<Table> = accepted().iter().map(|values| Table::of(values)).collect();
+    let mut tables = accepted().to_vec();
     tables.push(Table::BuiltIn);
     let plan = four_nodes(LENGTH + 300);
     let alone: Vec<Answer> = tables
@@ -413,7 +411,7 @@ fn work_under_another_table() {
 fn work_under_two_tables_in_turns() {
     let mut random = Random::new(178);
     let mut ended = [0, 0];
-    for _ in 0..150 {
+    for _ in 0..600 {
         let plan = any_plan(&mut random, 24);
         let tables = [plan.table.bytes(), Table::random(&mut random).bytes()];
         let (plan, mut saved) = (&plan.bytes(), NOTHING.to_vec());
@@ -438,5 +436,5 @@ fn work_under_two_tables_in_turns() {
             }
         }
     }
-    assert!(ended[0] > 100, "{ended:?}");
+    assert!(ended[0] > 400 && ended[1] > 1, "{ended:?}");
 }
