@@ -70,14 +70,15 @@ int main(int count, char **words)
     read_file(fopen(words[1], "rb"), words[1], &plan);
     read_saved(words[2], &saved);
 
-    refused = sitting(plan.bytes, plan.length, 1000, saved.bytes, saved.length, answer, sizeof answer, work, sizeof work);
+    refused = sitting(plan.bytes, plan.length, NULL, 0, 1000, saved.bytes, saved.length, answer, sizeof answer, work,
+                      sizeof work);
     print("so far", refused, answer);
     if (refused != 0)
         return 1;
     write_saved(words[2], work);
 
     if (count == 4) {
-        refused = figure(plan.bytes, plan.length, number(answer + 8), answer, sizeof answer);
+        refused = figure(plan.bytes, plan.length, NULL, 0, number(answer + 8), answer, sizeof answer);
         print("in one run", refused, answer);
     }
     return refused == 0 ? 0 : 1;

@@ -8,17 +8,25 @@
    value of it, rounded down and up after each joint: 999,900,002 and 999,900,003 for k = 0, 999,600,032 and 999,600,033
    for k = 1. A chance in units is taken as it is, with its joints in it.
 
+   A table, which every call but check is handed, is a buyer's own rating by length: 512 values of 32 bits, little-endian,
+   so 2,048 bytes, the value at place k for a length of k hundred metres. The first is S, and none is above the one before;
+   equal ones will do, and so will 0. Within that call T[k] is the table's value at k, with the joints as above, for every
+   length, in a difference for those of both plans. With a table of no bytes the T above serves, which is built in.
+
    An answer is four 32-bit little-endian numbers, 16 bytes: low, high, steps, finished (1 or 0). They fill the first 16
    bytes of the answer buffer; later bytes keep their contents. The exact figure, in units, is no less than low and no
    more than high, finished or not; exact means of the chances as they stand above, those of lengths not rounded. Where a
    figure is finished, high is at most 2 * m + 4 * n + 4 * L above low, L being the number of links given by length; a
-   finished importance or difference is at most as wide as its two evaluations together may be.
+   finished importance or difference is at most as wide as its two evaluations together may be. All this holds under every
+   table that is accepted.
 
    Each call returns 0 if it is accepted, and otherwise the number of the first cause of refusal that it meets, in the order
-   of this table. A refused call leaves the whole answer buffer as it was, and the whole work buffer.
+   of this list. A refused call leaves the whole answer buffer as it was, and the whole work buffer.
 
      7             the limit is above 1,000,000
      9             the answer buffer is under 16 bytes, or the work buffer under 776
+     12            the table has neither 0 nor 2,048 bytes
+     13            the table's first value is not S, or a value is above the one before
      1             the file is under 4 bytes
      2             n is 0 or above 32
      3             m is above 64
@@ -29,11 +37,12 @@
      10            the saved work has a wrong form
      11            an open split of the saved work is not one that the rule comes to on this plan, now or before
 
-   Links are tested in order, 5 before 6 at each. 8 is of importance alone; the work buffer, 10 and 11 are of sitting alone.
+   Links are tested in order, 5 before 6 at each. 12 and 13 are tested also where the plan has no length. 8 is of importance
+   alone; the work buffer, 10 and 11 are of sitting alone; check has 1 to 6 alone.
 
    A call asks that each pointer stands for as many bytes as the length behind it says (any pointer will do where that is
-   0), and that a buffer that is written to shares no byte with another buffer, a plan or saved work. It allocates nothing
-   and keeps nothing, so it is safe from several threads at once; each needs a stack of 512 KiB for it.
+   0), and that a buffer that is written to shares no byte with another buffer, a plan, a table or saved work. It allocates
+   nothing and keeps nothing, so it is safe from several threads at once; each needs a stack of 512 KiB for it.
 
    How long a call takes goes by its steps. At the limit of 1,000,000 the mesh of 32 nodes and 64 links (plans/mesh.plan)
    took figure about 0.4 seconds on one core of x86-64, and importance and difference, which work two networks, up to 0.8.
@@ -51,9 +60,11 @@
 extern "C" {
 #endif
 
-/* The bytes of an answer, the bytes of a work buffer, the largest limit, one in units, and the value of a length of 0. */
+/* The bytes of an answer, the bytes of a work buffer, the bytes of a table, the largest limit, one in units, and the value
+   of a length of 0. */
 #define PLANDESK_ANSWER 16
 #define PLANDESK_WORK 776
+#define PLANDESK_TABLE 2048
 #define PLANDESK_MOST_STEPS 1000000
 #define PLANDESK_ONE 1000000000
 #define PLANDESK_LENGTH 2147483648u
@@ -62,25 +73,26 @@ extern "C" {
 uint64_t check(const uint8_t *plan, size_t plan_len);
 
 /* The chance that every node can reach every other, within so many steps at most. Low and high are 0 to S; steps is at
-   most the limit. Returns 0, or 7, 9, 1 to 4, 5 + 256 * i or 6 + 256 * i. */
-uint64_t figure(const uint8_t *plan, size_t plan_len, uint64_t limit, uint8_t *answer, size_t answer_len);
+   most the limit. Returns 0, or 7, 9, 12, 13, 1 to 4, 5 + 256 * i or 6 + 256 * i. */
+uint64_t figure(const uint8_t *plan, size_t plan_len, const uint8_t *table, size_t table_len, uint64_t limit,
+                uint8_t *answer, size_t answer_len);
 
 /* The chance with the link at this place sound, less the chance with it broken. Low and high are 0 to S. Each of the two
    evaluations gets the whole limit; steps is their sum, and finished is 1 if both are.
-   Returns 0, or 7, 9, 1 to 4, 5 + 256 * i, 6 + 256 * i or 8. */
-uint64_t importance(const uint8_t *plan, size_t plan_len, uint64_t place, uint64_t limit, uint8_t *answer,
-                    size_t answer_len);
+   Returns 0, or 7, 9, 12, 13, 1 to 4, 5 + 256 * i, 6 + 256 * i or 8. */
+uint64_t importance(const uint8_t *plan, size_t plan_len, const uint8_t *table, size_t table_len, uint64_t place,
+                    uint64_t limit, uint8_t *answer, size_t answer_len);
 
-/* The chance of plan A less that of plan B. Low and high are -S to S, signed 32-bit numbers in two's complement. Each of
-   the two evaluations gets the whole limit; steps is their sum, and finished is 1 if both are.
-   Returns 0, or 7, 9, plan A's 1 to 4, 5 + 256 * i or 6 + 256 * i, or plan B's plus 20: 21 to 24, 25 + 256 * i or
+/* The chance of plan A less that of plan B, both under the one table. Low and high are -S to S, signed 32-bit numbers in
+   two's complement. Each of the two evaluations gets the whole limit; steps is their sum, and finished is 1 if both are.
+   Returns 0, or 7, 9, 12, 13, plan A's 1 to 4, 5 + 256 * i or 6 + 256 * i, or plan B's plus 20: 21 to 24, 25 + 256 * i or
    26 + 256 * i. */
-uint64_t difference(const uint8_t *plan_a, size_t plan_a_len, const uint8_t *plan_b, size_t plan_b_len, uint64_t limit,
-                    uint8_t *answer, size_t answer_len);
+uint64_t difference(const uint8_t *plan_a, size_t plan_a_len, const uint8_t *plan_b, size_t plan_b_len,
+                    const uint8_t *table, size_t table_len, uint64_t limit, uint8_t *answer, size_t answer_len);
 
 /* The figure, carried on from saved work and set aside again: answer gets the answer so far, work the saved work for the
    next sitting. The first sitting of a plan is handed eight zero bytes, each later one what the one before wrote, at its
-   length.
+   length, and the same table.
 
    A sitting takes at most its limit in steps, and at most what the steps so far leave of 1,000,000: a total past
    1,000,000 is cut and not refused. The steps of the answer are the total so far. A first sitting answers as figure does
@@ -122,15 +134,18 @@ uint64_t difference(const uint8_t *plan_a, size_t plan_a_len, const uint8_t *pla
    itself; 1 and 0 say that the next open split lies in the sound branch, every other pair that it lies in the broken one.
    All of 10 is tested before 11.
 
-   What is said of answers holds for saved work that came from earlier sittings of this very plan. Other bytes are tested
-   as far as 10 and 11 say and no further: not whether the steps go with the open splits, nor whether the figures of an
-   open split or the 16 bytes of complete work are right. They get an answer or a refusal, and no more is promised of it.
-   Work of a plan with lengths that was set aside when a length stood for T[k] alone, without joints, is among these other
-   bytes: it counts as made up by hand, nothing in it tells its age, and such a plan is to be begun anew.
+   What is said of answers holds for saved work that came from earlier sittings of this very plan under this very table.
+   Other bytes are tested as far as 10 and 11 say and no further: not whether the steps go with the open splits, nor
+   whether the figures of an open split or the 16 bytes of complete work are right. They get an answer or a refusal by 10
+   or 11, and no more is promised of it. Saved work carries nothing of its table, so work that was set aside under another
+   one is among these other bytes: it counts as made up by hand. So does work of a plan with lengths that was set aside
+   when a length stood for T[k] alone, without joints; nothing in it tells its age, and such a plan is to be begun anew.
 
-   Returns 0, or 7, 9, 1 to 4, 5 + 256 * i, 6 + 256 * i, 10 or 11. A refused sitting leaves both buffers as they were. */
-uint64_t sitting(const uint8_t *plan, size_t plan_len, uint64_t limit, const uint8_t *saved, size_t saved_len,
-                 uint8_t *answer, size_t answer_len, uint8_t *work, size_t work_len);
+   Returns 0, or 7, 9, 12, 13, 1 to 4, 5 + 256 * i, 6 + 256 * i, 10 or 11. A refused sitting leaves both buffers as they
+   were. */
+uint64_t sitting(const uint8_t *plan, size_t plan_len, const uint8_t *table, size_t table_len, uint64_t limit,
+                 const uint8_t *saved, size_t saved_len, uint8_t *answer, size_t answer_len, uint8_t *work,
+                 size_t work_len);
 
 #ifdef __cplusplus
 }

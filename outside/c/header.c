@@ -14,10 +14,13 @@ int main(void)
     uint8_t answer[PLANDESK_ANSWER] = {0}, work[PLANDESK_WORK] = {0};
     uint64_t limit = PLANDESK_MOST_STEPS;
     int wrong = refused(check(plan, sizeof plan));
-    wrong |= refused(figure(plan, sizeof plan, limit, answer, sizeof answer));
-    wrong |= refused(importance(plan, sizeof plan, 0, limit, answer, sizeof answer));
-    wrong |= refused(difference(plan, sizeof plan, plan, sizeof plan, limit, answer, sizeof answer));
-    wrong |= refused(sitting(plan, sizeof plan, limit, nothing, sizeof nothing, answer, sizeof answer, work, sizeof work));
+    wrong |= refused(figure(plan, sizeof plan, NULL, 0, limit, answer, sizeof answer));
+    wrong |= refused(importance(plan, sizeof plan, NULL, 0, 0, limit, answer, sizeof answer));
+    wrong |= refused(difference(plan, sizeof plan, plan, sizeof plan, NULL, 0, limit, answer, sizeof answer));
+    wrong |= refused(sitting(plan, sizeof plan, NULL, 0, limit, nothing, sizeof nothing, answer, sizeof answer, work,
+                             sizeof work));
     wrong |= !refused(check(plan, sizeof plan - 1));
+    wrong |= figure(plan, sizeof plan, nothing, sizeof nothing, limit, answer, sizeof answer) != 12;
+    wrong |= PLANDESK_TABLE != 2048;
     return wrong | (PLANDESK_ONE != 1000000000) | (PLANDESK_LENGTH != 2147483648u);
 }

@@ -1,5 +1,5 @@
-/* The figure, the importance, the difference and the sitting by the rule in C, with one slip of the choice or of the joints or
-   none: what the kinds of c/slips.c from 90 on put in the place of the library. Nothing is proved of it. That it passes all tests
+/* The figure, the importance, the difference and the sitting by the rule in C, with one slip of the choice, of the joints or of
+   the table, or none: what the kinds of c/slips.c from 90 on put in the place of the library. Nothing is proved of it. That it passes all tests
    without a slip is tried before the slips are. */
 
 #include "in_c.h"
@@ -43,7 +43,7 @@ static long slip_in(long slip, long place)
     return slip / 100 == EVERYWHERE || slip / 100 == place ? slip % 100 : NO_SLIP;
 }
 
-static uint32_t rating(uint32_t length)
+static uint32_t built_in(uint32_t length)
 {
     uint64_t chance = S;
     while (length-- > 0)
@@ -51,10 +51,76 @@ static uint32_t rating(uint32_t length)
     return chance;
 }
 
-/* Whether a slip leaves link i of m without joints. */
-static bool is_bare(long slip, uint32_t value, int i, int m)
+/* The value of a length in a buyer's table. */
+static uint32_t table_value(long slip, const uint8_t *table, uint32_t length)
+{
+    length += slip == NEXT_VALUE && length < 511;
+    length -= slip == VALUE_BEFORE && length > 0;
+    uint32_t value = word(table + 4 * (slip == LENGTHS_TO_255 ? length % 256 : length));
+    switch (slip) {
+    case HIGHEST_BYTE_FIRST:
+        value = __builtin_bswap32(value);
+        return value < S ? value : S;
+    case THREE_BYTES:
+        return value & 0xffffff;
+    case VALUE_LESS:
+        return value - (value > 0);
+    default:
+        return value;
+    }
+}
+
+/* A link that is given by length, its place among the plan's m links, and which of its values is worked out. */
+struct length {
+    uint32_t k;
+    int i, m;
+    bool is_high;
+};
+
+/* Whether a slip takes the built-in value in the place of this one. */
+static bool is_built_in(long slip, uint32_t value, const struct length *of)
 {
     switch (slip) {
+    case BUILT_IN_AT_1:
+        return of->k == 1;
+    case BUILT_IN_AT_511:
+        return of->k == 511;
+    case BUILT_IN_FROM_256:
+        return of->k >= 256;
+    case BUILT_IN_FOR_0:
+        return value == 0;
+    case BUILT_IN_IF_LESS:
+        return built_in(of->k) < value;
+    case BUILT_IN_IF_MORE:
+        return built_in(of->k) > value;
+    case BUILT_IN_FOR_LOW:
+        return !of->is_high;
+    case BUILT_IN_FOR_HIGH:
+        return of->is_high;
+    case BUILT_IN_AT_FIRST:
+        return of->i == 0;
+    case BUILT_IN_AT_LAST:
+        return of->i == of->m - 1;
+    default:
+        return slip == TABLE_IGNORED;
+    }
+}
+
+/* By the table, or the built-in one where that is NULL. */
+static uint32_t rating(long slip, const uint8_t *table, const struct length *of)
+{
+    if (table == NULL)
+        return built_in(of->k);
+    uint32_t value = table_value(slip, table, of->k);
+    return is_built_in(slip, value, of) ? built_in(of->k) : value;
+}
+
+/* Whether a slip leaves link i of m without joints. */
+static bool is_bare(long slip, const uint8_t *table, uint32_t value, int i, int m)
+{
+    switch (slip) {
+    case TABLE_BARE:
+        return table != NULL;
     case NO_JOINTS_AT_0:
         return value == LENGTH;
     case NO_JOINTS_AT_1:
@@ -73,9 +139,11 @@ static bool is_bare(long slip, uint32_t value, int i, int m)
 }
 
 /* How many joints a length has. */
-static int joints_of(long slip, bool is_high)
+static int joints_of(long slip, const uint8_t *table, bool is_high)
 {
     switch (slip) {
+    case TABLE_ONE_JOINT:
+        return table != NULL ? 1 : 2;
     case ONE_JOINT:
         return 1;
     case THREE_JOINTS:
@@ -98,29 +166,33 @@ static bool rounds_up(long slip, bool is_high, bool is_first)
 }
 
 /* The chance with its joints. */
-static uint32_t with_joints(long slip, uint64_t chance, bool is_high)
+static uint32_t with_joints(long slip, const uint8_t *table, uint64_t chance, bool is_high)
 {
     uint64_t joint = JOINT - (slip == JOINT_LESS) + (slip == JOINT_MORE);
     if (slip == ROUNDED_ONCE)
         return ((wide)chance * JOINT * JOINT + (is_high ? S * S - 1 : 0)) / (S * S);
-    for (int i = 0; i < joints_of(slip, is_high); i++)
+    for (int i = 0; i < joints_of(slip, table, is_high); i++)
         chance = rounds_up(slip, is_high, i == 0) ? up(chance * joint) : down(chance * joint);
     return chance;
 }
 
 /* The low and the high value of link i of m. */
-static Pair values_of(long slip, uint32_t value, int i, int m)
+static Pair values_of(long slip, const uint8_t *table, uint32_t value, int i, int m)
 {
-    uint32_t chance = value < LENGTH ? value : rating(value - LENGTH);
-    if (is_bare(slip, value, i, m) || (value < LENGTH && slip != JOINTS_ON_UNITS))
-        return (Pair){chance, chance};
-    uint32_t low = with_joints(slip, chance, false), high = with_joints(slip, chance, true);
+    struct length of_low = {value - LENGTH, i, m, false}, of_high = {value - LENGTH, i, m, true};
+    uint32_t low = value < LENGTH ? value : rating(slip, table, &of_low);
+    uint32_t high = value < LENGTH ? value : rating(slip, table, &of_high);
+    if (is_bare(slip, table, value, i, m) || (value < LENGTH && slip != JOINTS_ON_UNITS))
+        return (Pair){low, high};
+    low = with_joints(slip, table, low, false);
+    high = with_joints(slip, table, high, true);
     return (Pair){slip == HIGH_FOR_BOTH ? high : low, slip == LOW_FOR_BOTH ? low : high};
 }
 
-/* An accepted plan's network. */
-static Network network_of(long slip, const uint8_t *plan)
+/* An accepted plan's network, under the table of an accepted call. */
+static Network network_of(long slip, const struct call *c, const uint8_t *plan)
 {
+    const uint8_t *table = c->table_len < 2048 ? NULL : c->table;
     Network g = {0};
     int m = plan[2];
     for (int i = 0; i < m; i++) {
@@ -132,7 +204,7 @@ static Network network_of(long slip, const uint8_t *plan)
         g.at[b] |= link_bit(i);
         g.ends[i][0] = a;
         g.ends[i][1] = b;
-        g.values[i] = values_of(slip, word(plan + 4 + 2 * m + 4 * i), i, m);
+        g.values[i] = values_of(slip, table, word(plan + 4 + 2 * m + 4 * i), i, m);
     }
     for (int v = 0; v < MOST_NODES; v++)
         tally(&g, v);
@@ -337,21 +409,150 @@ static void put_answer(uint8_t *answer, int64_t low, int64_t high, uint64_t step
     put(answer + 12, finished);
 }
 
-static uint64_t asked(const uint8_t *plan, size_t plan_len, uint64_t limit, size_t room)
+/* Whether plan A has a length; it may be any bytes. */
+static bool has_length(const struct call *c)
 {
-    if (limit > MOST_STEPS)
-        return 7;
-    return room < 16 ? 9 : proved_check(plan, plan_len);
+    size_t m = c->a_len < 4 ? 0 : c->a[2];
+    for (size_t i = 0; i < m && 4 + 2 * m + 4 * i + 4 <= c->a_len; i++)
+        if (word(c->a + 4 + 2 * m + 4 * i) >= LENGTH)
+            return true;
+    return false;
 }
 
-uint64_t in_c_figure(long slip, const uint8_t *plan, size_t plan_len, uint64_t limit, uint8_t *answer, size_t answer_len)
+/* Whether a table may have so many bytes. */
+static bool is_right_length(long slip, const struct call *c)
+{
+    size_t length = c->table_len;
+    switch (slip) {
+    case ANY_LENGTH:
+        return true;
+    case LONGER_TABLE:
+        return length == 0 || length >= 2048;
+    case ONE_BYTE_MORE:
+        return length == 0 || length == 2048 || length == 2049;
+    case REST_OF_A_VALUE:
+        return length == 0 || length / 4 == 512;
+    case TWICE_AS_LONG:
+        return length == 0 || length == 2048 || length == 4096;
+    case REST_ALONE:
+        return length < 4 || length == 2048;
+    case EMPTY_REFUSED:
+        return length == 2048;
+    case IF_LENGTHS_12:
+        return length == 0 || length == 2048 || !has_length(c);
+    default:
+        return length == 0 || length == 2048;
+    }
+}
+
+static bool is_right_first(long slip, uint32_t value)
+{
+    return value == S || slip == FIRST_UNTESTED || (slip == FIRST_MORE && value == S + 1) || (slip == FIRST_LESS && value < S);
+}
+
+/* Whether value k may stand behind the one before. */
+static bool is_right_next(long slip, uint32_t before, uint32_t value, int k)
+{
+    switch (slip) {
+    case RISE_AT_1:
+        return value <= before || k == 1;
+    case RISE_AT_256:
+        return value <= before || k == 256;
+    case RISE_AT_511:
+        return value <= before || k == 511;
+    case RISES_UNTESTED:
+        return true;
+    case RISE_OF_1:
+        return value <= before || value == before + 1;
+    case RISES_TO_S:
+        return value <= S;
+    case SIGNED_VALUES:
+        return (int32_t)value <= (int32_t)before;
+    case EQUAL_REFUSED:
+        return value < before;
+    case ZERO_REFUSED:
+        return value <= before && value > 0;
+    default:
+        return value <= before;
+    }
+}
+
+/* Check 13 of a table of 2,048 bytes or more. */
+static uint64_t values_refused(long slip, const struct call *c)
+{
+    if (c->table_len < 2048 || (slip == IF_LENGTHS_13 && !has_length(c)))
+        return 0;
+    if (!is_right_first(slip, word(c->table)))
+        return 13;
+    for (int k = 1; k < 512; k++)
+        if (!is_right_next(slip, word(c->table + 4 * k - 4), word(c->table + 4 * k), k))
+            return slip == PLACE_NAMED ? 13 + 256 * k : 13;
+    return 0;
+}
+
+static bool is_complete(const struct call *c)
+{
+    return c->which == SITTING && c->b_len == 24 && c->b[2] == 1;
+}
+
+/* Checks 12 and 13. */
+static uint64_t table_refused(long slip, const struct call *c)
+{
+    if (slip == NOT_IF_COMPLETE && is_complete(c))
+        return 0;
+    return is_right_length(slip, c) ? values_refused(slip, c) : 12;
+}
+
+/* The place of a call for its slips; of a difference that of plan A. */
+static long place_of_call(const struct call *c)
+{
+    static const long places[] = {0, IN_FIGURE, IN_IMPORTANCE, IN_PLAN_A, IN_SITTING};
+    return places[c->which];
+}
+
+static uint64_t first_of(uint64_t one, uint64_t other)
+{
+    return one != 0 ? one : other;
+}
+
+/* The checks up to those of plan A, and those of the table, wherever a slip puts them. */
+static uint64_t asked(long slip, const struct call *c)
+{
+    slip = slip_in(slip, place_of_call(c));
+    uint64_t limit = c->limit > MOST_STEPS ? 7 : 0, room = c->room < 16 ? 9 : 0;
+    uint64_t table = table_refused(slip, c), plan = proved_check(c->a, c->a_len);
+    if (c->which == SITTING && c->work_room < 776)
+        room = 9;
+    switch (slip) {
+    case TABLE_BEFORE_7:
+        return first_of(table, first_of(limit, first_of(room, plan)));
+    case TABLE_BEFORE_9:
+        return first_of(limit, first_of(table, first_of(room, plan)));
+    case TABLE_AFTER_PLAN:
+        return first_of(limit, first_of(room, first_of(plan, table)));
+    case ONLY_13_AFTER_PLAN:
+        return first_of(limit, first_of(room, table == 12 ? 12 : first_of(plan, table)));
+    case TABLE_LAST:
+        return first_of(limit, first_of(room, plan));
+    default:
+        return first_of(limit, first_of(room, first_of(table, plan)));
+    }
+}
+
+/* What the table is refused with where a slip tests it behind all else. */
+static uint64_t asked_last(long slip, const struct call *c)
+{
+    return slip_in(slip, place_of_call(c)) == TABLE_LAST ? table_refused(slip, c) : 0;
+}
+
+static uint64_t in_c_figure(long slip, const struct call *c)
 {
     struct run r = {.slip = slip};
-    uint64_t refused = asked(plan, plan_len, limit, answer_len);
+    uint64_t refused = first_of(asked(slip, c), asked_last(slip, c));
     if (refused != 0)
         return refused;
-    Figure f = worked(&r, network_of(slip_in(slip, IN_FIGURE), plan), nodes_of(plan), limit);
-    put_answer(answer, f.low, f.high, f.steps, f.finished);
+    Figure f = worked(&r, network_of(slip_in(slip, IN_FIGURE), c, c->a), nodes_of(c->a), c->limit);
+    put_answer(c->answer, f.low, f.high, f.steps, f.finished);
     return 0;
 }
 
@@ -361,44 +562,47 @@ static void put_difference(uint8_t *answer, Figure a, Figure b, bool signed_low)
     put_answer(answer, low < 0 && !signed_low ? 0 : low, high, a.steps + b.steps, a.finished && b.finished);
 }
 
-uint64_t in_c_importance(long slip, const uint8_t *plan, size_t plan_len, uint64_t place, uint64_t limit, uint8_t *answer,
-                         size_t answer_len)
+static uint64_t in_c_importance(long slip, const struct call *c)
 {
     struct run r = {.slip = slip};
-    uint64_t refused = asked(plan, plan_len, limit, answer_len);
-    if (refused != 0 || place >= plan[2])
-        return refused != 0 ? refused : 8;
-    Network broken = network_of(slip_in(slip, IN_IMPORTANCE), plan), sound = broken;
-    uint32_t nodes = nodes_of(plan), left = nodes;
-    if (broken.links & link_bit(place)) {
-        const uint8_t *ends = broken.ends[place];
+    uint64_t refused = asked(slip, c);
+    if (refused == 0)
+        refused = c->place >= c->a[2] ? 8 : asked_last(slip, c);
+    if (refused != 0)
+        return refused;
+    Network broken = network_of(slip_in(slip, IN_IMPORTANCE), c, c->a), sound = broken;
+    uint32_t nodes = nodes_of(c->a), left = nodes;
+    if (broken.links & link_bit(c->place)) {
+        const uint8_t *ends = broken.ends[c->place];
         left &= ~node_bit(ends[0] > ends[1] ? ends[0] : ends[1]);
-        branch(&sound, place, true);
-        branch(&broken, place, false);
+        branch(&sound, c->place, true);
+        branch(&broken, c->place, false);
         for (uint64_t links = sound.links; links != 0; links = without_first(links))
             if (sound.ends[first(links)][0] == sound.ends[first(links)][1])
                 remove_link(&sound, first(links));
         for (int v = 0; v < MOST_NODES; v++)
             tally(&sound, v);
     }
-    Figure with = worked(&r, sound, left, limit), without = worked(&r, broken, nodes, limit);
-    put_difference(answer, with, without, false);
+    Figure with = worked(&r, sound, left, c->limit), without = worked(&r, broken, nodes, c->limit);
+    put_difference(c->answer, with, without, false);
     return 0;
 }
 
-uint64_t in_c_difference(long slip, const uint8_t *plan_a, size_t plan_a_len, const uint8_t *plan_b, size_t plan_b_len,
-                         uint64_t limit, uint8_t *answer, size_t answer_len)
+static uint64_t in_c_difference(long slip, const struct call *c)
 {
     struct run r = {.slip = slip};
-    uint64_t refused = asked(plan_a, plan_a_len, limit, answer_len);
+    uint64_t refused = asked(slip, c);
     if (refused != 0)
         return refused;
-    refused = proved_check(plan_b, plan_b_len);
+    refused = proved_check(c->b, c->b_len);
     if (refused != 0)
         return refused + 20;
-    Figure a = worked(&r, network_of(slip_in(slip, IN_PLAN_A), plan_a), nodes_of(plan_a), limit);
-    Figure b = worked(&r, network_of(slip_in(slip, IN_PLAN_B), plan_b), nodes_of(plan_b), limit);
-    put_difference(answer, a, b, true);
+    refused = asked_last(slip, c);
+    if (refused != 0)
+        return refused;
+    Figure a = worked(&r, network_of(slip_in(slip, IN_PLAN_A), c, c->a), nodes_of(c->a), c->limit);
+    Figure b = worked(&r, network_of(slip_in(slip, IN_PLAN_B), c, c->b), nodes_of(c->b), c->limit);
+    put_difference(c->answer, a, b, true);
     return 0;
 }
 
@@ -447,35 +651,53 @@ static bool has_first_link(const struct run *r, Network g)
     return !traced(&largest, g, 1);
 }
 
-uint64_t in_c_sitting(long slip, const uint8_t *plan, size_t plan_len, uint64_t limit, const uint8_t *saved, size_t saved_len,
-                      uint8_t *answer, size_t answer_len, uint8_t *work, size_t work_len)
+static uint64_t in_c_sitting(long slip, const struct call *c)
 {
     struct run r = {.slip = slip};
-    uint64_t refused = asked(plan, plan_len, limit, work_len < 776 ? 0 : answer_len);
+    uint64_t refused = asked(slip, c);
     if (refused != 0)
         return refused;
-    if (!well_formed(&r, saved, saved_len))
+    if (!well_formed(&r, c->b, c->b_len))
         return 10;
     long place = r.count > 0 && slip / 100 == IN_CARRIED ? IN_CARRIED : IN_SITTING;
-    Network g = network_of(slip_in(slip, place), plan);
+    Network g = network_of(slip_in(slip, place), c, c->a);
     count_links(&r, &g);
-    if (!traced(&r, g, nodes_of(plan)))
+    if (!traced(&r, g, nodes_of(c->a)))
         return 11;
-    if (saved[2] == 1) {
-        memcpy(answer, saved + 8, 16);
-        memmove(work, saved, 24);
+    refused = asked_last(slip, c);
+    if (refused != 0)
+        return refused;
+    if (c->b[2] == 1) {
+        memcpy(c->answer, c->b + 8, 16);
+        memmove(c->work, c->b, 24);
         return 0;
     }
-    uint64_t before = word(saved + 4), most = MOST_STEPS - before;
+    uint64_t before = word(c->b + 4), most = MOST_STEPS - before;
     bool old = has_first_link(&r, g);
     r.carried = r.count > 0;
     if (slip == OLD_STARTS_OVER && old)
         r.count = 0;
     if (slip == OLD_BY_FIRST && old)
         r.slip = ALL_BY_FIRST;
-    Figure f = worked(&r, g, nodes_of(plan), limit < most ? limit : most);
+    Figure f = worked(&r, g, nodes_of(c->a), c->limit < most ? c->limit : most);
     uint64_t steps = slip == STEPS_FORGOTTEN || (slip == OLD_STEPS_FORGOTTEN && old) ? f.steps : before + f.steps;
-    put_answer(answer, f.low, f.high, steps, f.finished);
-    put_work(&r, work, answer, steps, f.finished);
+    put_answer(c->answer, f.low, f.high, steps, f.finished);
+    put_work(&r, c->work, c->answer, steps, f.finished);
     return 0;
+}
+
+uint64_t in_c(long slip, const struct call *c)
+{
+    switch (c->which) {
+    case CHECK:
+        return proved_check(c->a, c->a_len);
+    case FIGURE:
+        return in_c_figure(slip, c);
+    case IMPORTANCE:
+        return in_c_importance(slip, c);
+    case DIFFERENCE:
+        return in_c_difference(slip, c);
+    default:
+        return in_c_sitting(slip, c);
+    }
 }

@@ -1,4 +1,4 @@
-/* The calls by the rule in C (in_c.c), and the slips of the choice and of the joints that they may have. */
+/* The calls by the rule in C (in_c.c), and the slips of the choice, of the joints and of the table that they may have. */
 
 #ifndef IN_C_H
 #define IN_C_H
@@ -52,17 +52,73 @@ enum {
     JOINT_MORE,          /* J is one more */
     FIRST_LINK_BARE,     /* the first link of the plan has no joint */
     LAST_LINK_BARE,      /* the last link of the plan has no joint */
+    TABLE_IGNORED,       /* the built-in table serves */
+    TABLE_BARE,          /* a length has no joint under a buyer's table */
+    TABLE_ONE_JOINT,     /* a length has one joint under a buyer's table */
+    NEXT_VALUE,          /* the value behind is read, of the last itself */
+    VALUE_BEFORE,        /* the value before is read, of the first itself */
+    HIGHEST_BYTE_FIRST,  /* a value is read with its highest byte first */
+    THREE_BYTES,         /* a value is read in three bytes */
+    VALUE_LESS,          /* a value above 0 is one less */
+    LENGTHS_TO_255,      /* lengths are eight bits */
+    BUILT_IN_AT_1,       /* the built-in value serves at length 1 */
+    BUILT_IN_AT_511,     /* at length 511 */
+    BUILT_IN_FROM_256,   /* from length 256 on */
+    BUILT_IN_FOR_0,      /* for a value of 0 */
+    BUILT_IN_IF_LESS,    /* where it is less */
+    BUILT_IN_IF_MORE,    /* where it is more */
+    BUILT_IN_FOR_LOW,    /* for low */
+    BUILT_IN_FOR_HIGH,   /* for high */
+    BUILT_IN_AT_FIRST,   /* at the first link of the plan */
+    BUILT_IN_AT_LAST,    /* at the last link of the plan */
+    ANY_LENGTH,          /* a table may have any length; a shorter one is taken for none */
+    LONGER_TABLE,        /* a table may be longer */
+    ONE_BYTE_MORE,       /* a table may have 2,049 bytes */
+    REST_OF_A_VALUE,     /* a table may have 2,051 bytes at most */
+    TWICE_AS_LONG,       /* a table may have 4,096 bytes */
+    REST_ALONE,          /* a table of 1 to 3 bytes is taken for none */
+    EMPTY_REFUSED,       /* a table of no bytes is refused by 12 */
+    FIRST_UNTESTED,      /* the first value is not tested */
+    FIRST_MORE,          /* S + 1 may be first */
+    FIRST_LESS,          /* less than S may be first */
+    RISE_AT_1,           /* value 1 may be above the one before */
+    RISE_AT_256,         /* value 256 may be */
+    RISE_AT_511,         /* value 511 may be */
+    RISES_UNTESTED,      /* every value may be */
+    RISE_OF_1,           /* every value may be by one */
+    RISES_TO_S,          /* every value may be, up to S */
+    SIGNED_VALUES,       /* values are compared as signed numbers */
+    EQUAL_REFUSED,       /* equal neighbours are refused by 13 */
+    ZERO_REFUSED,        /* a value of 0 is refused by 13 */
+    PLACE_NAMED,         /* 13 names the place */
+    TABLE_BEFORE_7,      /* 12 and 13 are tested before 7 */
+    TABLE_BEFORE_9,      /* before 9 */
+    TABLE_AFTER_PLAN,    /* after the causes of plan A */
+    ONLY_13_AFTER_PLAN,  /* 13 is, 12 is not */
+    TABLE_LAST,          /* after all others */
+    IF_LENGTHS_12,       /* 12 is tested where plan A has a length */
+    IF_LENGTHS_13,       /* 13 is */
+    NOT_IF_COMPLETE,     /* neither is where saved work is complete */
 };
 
-/* A slip of the joints may be made in one place alone, whose number stands before the slip's last two digits. */
+/* A slip of the joints or of the table may be made in one place alone, whose number stands before the slip's last two digits. */
 enum { EVERYWHERE, IN_FIGURE, IN_IMPORTANCE, IN_PLAN_A, IN_PLAN_B, IN_SITTING, IN_CARRIED };
 
-uint64_t in_c_figure(long slip, const uint8_t *plan, size_t plan_len, uint64_t limit, uint8_t *answer, size_t answer_len);
-uint64_t in_c_importance(long slip, const uint8_t *plan, size_t plan_len, uint64_t place, uint64_t limit, uint8_t *answer,
-                         size_t answer_len);
-uint64_t in_c_difference(long slip, const uint8_t *plan_a, size_t plan_a_len, const uint8_t *plan_b, size_t plan_b_len,
-                         uint64_t limit, uint8_t *answer, size_t answer_len);
-uint64_t in_c_sitting(long slip, const uint8_t *plan, size_t plan_len, uint64_t limit, const uint8_t *saved, size_t saved_len,
-                      uint8_t *answer, size_t answer_len, uint8_t *work, size_t work_len);
+enum { CHECK, FIGURE, IMPORTANCE, DIFFERENCE, SITTING };
+
+/* Of a sitting b is the saved work. */
+struct call {
+    long which;
+    const uint8_t *a, *b, *table;
+    size_t a_len, b_len, table_len;
+    uint64_t place, limit;
+    uint8_t *answer;
+    size_t room;
+    uint8_t *work;
+    size_t work_room;
+};
+
+/* Makes the call by the rule in C. */
+uint64_t in_c(long slip, const struct call *c);
 
 #endif

@@ -3,8 +3,9 @@
 
    SLIP is the number of a kind and eight more numbers. Of kinds 0 and 1: the call (0 check, 1 figure, 2 importance,
    3 difference, 4 sitting), what is wrong, by how much; and where: of an answer (kind 0) the least and the most links, whether
-   it is finished, the least and the most steps; of a refusal (kind 1) its number without the link. Of kinds 70 to 83 the
-   call, and of kind 76 a count. Of kind 90 a slip of the choice or of the joints, made in calls in C. Of other kinds: none. */
+   it is finished, the least and the most steps; of a refusal (kind 1) its number without the link. Of kinds 70 to 84 the
+   call, and of kind 76 a count. Of kind 90 a slip of the choice, of the joints or of the table, made in calls in C. Of other
+   kinds: none. */
 
 #include "in_c.h"
 #include "plandesk.h"
@@ -15,29 +16,18 @@
 #include <string.h>
 
 uint64_t proved_check(const uint8_t *plan, size_t plan_len);
-uint64_t proved_figure(const uint8_t *plan, size_t plan_len, uint64_t limit, uint8_t *answer, size_t answer_len);
-uint64_t proved_importance(const uint8_t *plan, size_t plan_len, uint64_t place, uint64_t limit, uint8_t *answer,
-                           size_t answer_len);
-uint64_t proved_difference(const uint8_t *plan_a, size_t plan_a_len, const uint8_t *plan_b, size_t plan_b_len, uint64_t limit,
-                           uint8_t *answer, size_t answer_len);
-uint64_t proved_sitting(const uint8_t *plan, size_t plan_len, uint64_t limit, const uint8_t *saved, size_t saved_len,
-                        uint8_t *answer, size_t answer_len, uint8_t *work, size_t work_len);
+uint64_t proved_figure(const uint8_t *plan, size_t plan_len, const uint8_t *table, size_t table_len, uint64_t limit,
+                       uint8_t *answer, size_t answer_len);
+uint64_t proved_importance(const uint8_t *plan, size_t plan_len, const uint8_t *table, size_t table_len, uint64_t place,
+                           uint64_t limit, uint8_t *answer, size_t answer_len);
+uint64_t proved_difference(const uint8_t *plan_a, size_t plan_a_len, const uint8_t *plan_b, size_t plan_b_len,
+                           const uint8_t *table, size_t table_len, uint64_t limit, uint8_t *answer, size_t answer_len);
+uint64_t proved_sitting(const uint8_t *plan, size_t plan_len, const uint8_t *table, size_t table_len, uint64_t limit,
+                        const uint8_t *saved, size_t saved_len, uint8_t *answer, size_t answer_len, uint8_t *work,
+                        size_t work_len);
 
-enum { CHECK, FIGURE, IMPORTANCE, DIFFERENCE, SITTING };
 enum { LOW, HIGH, STEPS, FINISHED, BEHIND, PAST, RETURNED, FIRST, LAST };
 enum { WORK_BEHIND = LAST + 1, WORK_PAST, WORK_FIRST, WORK_LAST, WORK_END };
-
-/* Of a sitting b is the saved work. */
-struct call {
-    long which;
-    const uint8_t *a, *b;
-    size_t a_len, b_len;
-    uint64_t place, limit;
-    uint8_t *answer;
-    size_t room;
-    uint8_t *work;
-    size_t work_room;
-};
 
 static uint64_t proved(const struct call *c)
 {
@@ -45,13 +35,14 @@ static uint64_t proved(const struct call *c)
     case CHECK:
         return proved_check(c->a, c->a_len);
     case FIGURE:
-        return proved_figure(c->a, c->a_len, c->limit, c->answer, c->room);
+        return proved_figure(c->a, c->a_len, c->table, c->table_len, c->limit, c->answer, c->room);
     case IMPORTANCE:
-        return proved_importance(c->a, c->a_len, c->place, c->limit, c->answer, c->room);
+        return proved_importance(c->a, c->a_len, c->table, c->table_len, c->place, c->limit, c->answer, c->room);
     case DIFFERENCE:
-        return proved_difference(c->a, c->a_len, c->b, c->b_len, c->limit, c->answer, c->room);
+        return proved_difference(c->a, c->a_len, c->b, c->b_len, c->table, c->table_len, c->limit, c->answer, c->room);
     default:
-        return proved_sitting(c->a, c->a_len, c->limit, c->b, c->b_len, c->answer, c->room, c->work, c->work_room);
+        return proved_sitting(c->a, c->a_len, c->table, c->table_len, c->limit, c->b, c->b_len, c->answer, c->room, c->work,
+                              c->work_room);
     }
 }
 
@@ -176,6 +167,34 @@ static uint64_t kept(struct call *c)
     return proved(c);
 }
 
+/* The same of the table. */
+static uint64_t table_kept(struct call *c)
+{
+    static uint8_t table[2048];
+    if (c->table_len != sizeof table)
+        return proved(c);
+    memcpy(table, c->table, sizeof table);
+    sched_yield();
+    c->table = table;
+    return proved(c);
+}
+
+/* The last table serves where there is none. */
+static uint64_t last_table(struct call *c)
+{
+    static uint8_t table[2048];
+    static size_t length;
+    if (c->table_len == sizeof table && proved(c) == 0) {
+        memcpy(table, c->table, sizeof table);
+        length = sizeof table;
+    }
+    if (c->table_len == 0) {
+        c->table = table;
+        c->table_len = length;
+    }
+    return proved(c);
+}
+
 static int is_loop(const struct call *c)
 {
     const uint8_t *ends = c->a + 4 + 2 * c->place;
@@ -255,8 +274,16 @@ static uint64_t from(struct call *c, const uint8_t *saved, size_t saved_len, uin
 static int only_11(const struct call *c, const uint8_t *saved)
 {
     uint8_t answer[16], work[776];
-    int asked = c->limit <= 1000000 && c->room >= 16 && c->work_room >= 776;
-    return asked && proved_sitting(c->a, c->a_len, 0, saved, c->b_len, answer, 16, work, 776) == 11;
+    struct call without = *c;
+    if (c->limit > 1000000 || c->room < 16 || c->work_room < 776)
+        return 0;
+    without.limit = 0;
+    without.b = saved;
+    without.answer = answer;
+    without.work = work;
+    without.room = sizeof answer;
+    without.work_room = sizeof work;
+    return proved(&without) == 11;
 }
 
 /* Kinds of a sitting, on the way in. The saved work is changed in a copy. */
@@ -389,6 +416,10 @@ static uint64_t otherwise(struct call *c, const long *s)
         c->b = proved_check(c->b, c->b_len) == 0 ? c->a : c->b;
         c->b_len = c->b == c->a ? c->a_len : c->b_len;
         return proved(c);
+    case 25: /* the table is kept where other threads keep theirs */
+        return table_kept(c);
+    case 26: /* the last table serves where there is none */
+        return last_table(c);
     default:
         return proved(c);
     }
@@ -488,6 +519,12 @@ static void narrowed(struct call *c, long kind)
         c->b_len &= 0x1ffff;
     if (kind == 75) /* plan B's or the saved work's, in 10 bits */
         c->b_len &= 0x3ff;
+    if (kind == 77) /* the table's, in 16 bits */
+        c->table_len &= 0xffff;
+    if (kind == 78) /* the table's, in 12 bits */
+        c->table_len &= 0xfff;
+    if (kind == 79) /* the table's, in 11 bits */
+        c->table_len &= 0x7ff;
 }
 
 /* The place of the last of more than so many open splits is not tested. */
@@ -505,11 +542,11 @@ static uint64_t with_the_last_place(struct call *c, size_t most)
 /* Whether what such a kind says lies at an odd address. */
 static int is_odd(const struct call *c, long kind)
 {
-    const uint8_t *at[] = {c->a, c->b, c->answer, c->work};
-    return 80 <= kind && kind <= 83 && (uintptr_t)at[kind - 80] % 2 == 1;
+    const uint8_t *at[] = {c->a, c->b, c->answer, c->work, c->table_len > 0 ? c->table : NULL};
+    return 80 <= kind && kind <= 84 && (uintptr_t)at[kind - 80] % 2 == 1;
 }
 
-/* Kinds 70 to 83, of one call. */
+/* Kinds 70 to 84, of one call. */
 static uint64_t of_one_call(struct call *c, const long *s)
 {
     if (c->which != s[1])
@@ -519,23 +556,6 @@ static uint64_t of_one_call(struct call *c, const long *s)
     if (returned == 0 && is_odd(c, s[0]))
         c->work[length(c->work) - 1] ^= 1;
     return returned;
-}
-
-/* Kind 90: the calls by the rule in C. */
-static uint64_t in_c(const struct call *c, long slip)
-{
-    switch (c->which) {
-    case CHECK:
-        return proved(c);
-    case FIGURE:
-        return in_c_figure(slip, c->a, c->a_len, c->limit, c->answer, c->room);
-    case IMPORTANCE:
-        return in_c_importance(slip, c->a, c->a_len, c->place, c->limit, c->answer, c->room);
-    case DIFFERENCE:
-        return in_c_difference(slip, c->a, c->a_len, c->b, c->b_len, c->limit, c->answer, c->room);
-    default:
-        return in_c_sitting(slip, c->a, c->a_len, c->limit, c->b, c->b_len, c->answer, c->room, c->work, c->work_room);
-    }
 }
 
 static uint64_t slipped(struct call c)
@@ -548,7 +568,7 @@ static uint64_t slipped(struct call c)
         text = end;
     }
     if (s[0] == 90)
-        return in_c(&c, s[1]);
+        return in_c(s[1], &c);
     struct call asked = c;
     uint64_t returned = s[0] >= 70 ? of_one_call(&asked, s) : otherwise(&asked, s);
     if (s[0] == 0)
@@ -560,28 +580,32 @@ static uint64_t slipped(struct call c)
 
 uint64_t check(const uint8_t *plan, size_t plan_len)
 {
-    return slipped((struct call){CHECK, plan, plan, plan_len, plan_len, 0, 0, NULL, 0, NULL, 0});
+    return slipped((struct call){.which = CHECK, .a = plan, .b = plan, .a_len = plan_len, .b_len = plan_len});
 }
 
-uint64_t figure(const uint8_t *plan, size_t plan_len, uint64_t limit, uint8_t *answer, size_t answer_len)
+uint64_t figure(const uint8_t *plan, size_t plan_len, const uint8_t *table, size_t table_len, uint64_t limit, uint8_t *answer,
+                size_t answer_len)
 {
-    return slipped((struct call){FIGURE, plan, plan, plan_len, plan_len, 0, limit, answer, answer_len, NULL, 0});
+    return slipped((struct call){FIGURE, plan, plan, table, plan_len, plan_len, table_len, 0, limit, answer, answer_len, NULL, 0});
 }
 
-uint64_t importance(const uint8_t *plan, size_t plan_len, uint64_t place, uint64_t limit, uint8_t *answer,
-                    size_t answer_len)
+uint64_t importance(const uint8_t *plan, size_t plan_len, const uint8_t *table, size_t table_len, uint64_t place,
+                    uint64_t limit, uint8_t *answer, size_t answer_len)
 {
-    return slipped((struct call){IMPORTANCE, plan, plan, plan_len, plan_len, place, limit, answer, answer_len, NULL, 0});
+    return slipped((struct call){IMPORTANCE, plan, plan, table, plan_len, plan_len, table_len, place, limit, answer, answer_len,
+                                 NULL, 0});
 }
 
-uint64_t difference(const uint8_t *plan_a, size_t plan_a_len, const uint8_t *plan_b, size_t plan_b_len, uint64_t limit,
-                    uint8_t *answer, size_t answer_len)
+uint64_t difference(const uint8_t *plan_a, size_t plan_a_len, const uint8_t *plan_b, size_t plan_b_len, const uint8_t *table,
+                    size_t table_len, uint64_t limit, uint8_t *answer, size_t answer_len)
 {
-    return slipped((struct call){DIFFERENCE, plan_a, plan_b, plan_a_len, plan_b_len, 0, limit, answer, answer_len, NULL, 0});
+    return slipped((struct call){DIFFERENCE, plan_a, plan_b, table, plan_a_len, plan_b_len, table_len, 0, limit, answer,
+                                 answer_len, NULL, 0});
 }
 
-uint64_t sitting(const uint8_t *plan, size_t plan_len, uint64_t limit, const uint8_t *saved, size_t saved_len,
-                 uint8_t *answer, size_t answer_len, uint8_t *work, size_t work_len)
+uint64_t sitting(const uint8_t *plan, size_t plan_len, const uint8_t *table, size_t table_len, uint64_t limit,
+                 const uint8_t *saved, size_t saved_len, uint8_t *answer, size_t answer_len, uint8_t *work, size_t work_len)
 {
-    return slipped((struct call){SITTING, plan, saved, plan_len, saved_len, 0, limit, answer, answer_len, work, work_len});
+    return slipped((struct call){SITTING, plan, saved, table, plan_len, saved_len, table_len, 0, limit, answer, answer_len, work,
+                                 work_len});
 }

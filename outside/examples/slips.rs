@@ -101,10 +101,10 @@ fn of_answers() -> Vec<Slip> {
 fn causes(call: usize) -> Vec<i64> {
     match call {
         CHECK => (1..=6).collect(),
-        IMPORTANCE => (1..=9).collect(),
-        DIFFERENCE => (1..=7).chain([9]).chain(21..=26).collect(),
-        SITTING => (1..=7).chain(9..=11).collect(),
-        _ => (1..=7).chain([9]).collect(),
+        IMPORTANCE => (1..=9).chain([12, 13]).collect(),
+        DIFFERENCE => (1..=7).chain([9, 12, 13]).chain(21..=26).collect(),
+        SITTING => (1..=7).chain(9..=13).collect(),
+        _ => (1..=7).chain([9, 12, 13]).collect(),
     }
 }
 
@@ -134,7 +134,7 @@ fn of_refusals() -> Vec<Slip> {
     slips
 }
 
-const OTHERS: [(i64, &str); 62] = [
+const OTHERS: [(i64, &str); 64] = [
     (2, "a limit of 1000000 is refused"),
     (3, "a limit of 1000001 is accepted"),
     (4, "limits are 32 bits"),
@@ -158,6 +158,8 @@ const OTHERS: [(i64, &str); 62] = [
     (22, "a plan of 32 nodes is refused"),
     (23, "a plan of 64 links is refused"),
     (24, "the first plan is taken for both"),
+    (25, "the table is kept where other threads keep theirs"),
+    (26, "the last table serves where there is none"),
     (30, "a small negative low loses its sign"),
     (31, "a negative high loses its sign"),
     (32, "a low of -S is 0"),
@@ -206,7 +208,7 @@ const OTHERS: [(i64, &str); 62] = [
 ];
 
 /// Lengths in fewer bits, places of many open splits and odd addresses: the kind, its name, and the calls that have it.
-const OF_CALLS: [(i64, &str, &[usize]); 12] = [
+const OF_CALLS: [(i64, &str, &[usize]); 16] = [
     (70, "a plan's length is 16 bits", &[0, 1, 2, 3, 4]),
     (71, "plan B's length is 16 bits", &[3]),
     (72, "an answer buffer's length is 16 bits", &[1, 2, 3, 4]),
@@ -214,6 +216,9 @@ const OF_CALLS: [(i64, &str, &[usize]); 12] = [
     (74, "the length of saved work is 17 bits", &[4]),
     (75, "the length of saved work is 10 bits", &[4]),
     (73, "a work buffer's length is 16 bits", &[4]),
+    (77, "a table's length is 16 bits", &[1, 2, 3, 4]),
+    (78, "a table's length is 12 bits", &[1, 2, 3, 4]),
+    (79, "a table's length is 11 bits", &[1, 2, 3, 4]),
     (76, "the last of many places is not tested", &[4]),
     (
         80,
@@ -233,6 +238,11 @@ const OF_CALLS: [(i64, &str, &[usize]); 12] = [
     (
         83,
         "a byte is wrong where the work is at an odd address",
+        &[4],
+    ),
+    (
+        84,
+        "a byte is wrong where the table is at an odd address",
         &[4],
     ),
 ];
@@ -316,7 +326,62 @@ const OF_JOINTS: [&str; 21] = [
     "none at the last link",
 ];
 
-/// Where a slip of the joints may be made alone, in the order of these places' numbers in `c/in_c.h`.
+/// Slips of what a table's values mean, in the order of their numbers, which go on from those of the joints.
+const OF_VALUES: [&str; 19] = [
+    "the built-in one serves",
+    "no joint under it",
+    "one joint under it",
+    "the value behind is read",
+    "the value before is read",
+    "the highest byte is read first",
+    "three bytes are read",
+    "a value is one less",
+    "lengths are eight bits",
+    "the built-in one at length 1",
+    "the built-in one at length 511",
+    "the built-in one from length 256 on",
+    "the built-in one for a value of 0",
+    "the built-in one where it is less",
+    "the built-in one where it is more",
+    "the built-in one for low",
+    "the built-in one for high",
+    "the built-in one at the first link",
+    "the built-in one at the last link",
+];
+
+/// Slips of checks 12 and 13, in the order of their numbers, which go on from those. The last is of a sitting alone.
+const OF_CHECKS: [&str; 28] = [
+    "any length is accepted",
+    "longer ones are accepted",
+    "2049 bytes are accepted",
+    "2051 bytes are accepted",
+    "4096 bytes are accepted",
+    "three bytes are taken for none",
+    "no bytes are refused",
+    "the first value is not tested",
+    "S + 1 may be first",
+    "less than S may be first",
+    "value 1 may rise",
+    "value 256 may rise",
+    "value 511 may rise",
+    "every value may rise",
+    "a value may rise by one",
+    "a value may rise up to S",
+    "values are signed",
+    "equal neighbours are refused",
+    "a value of 0 is refused",
+    "13 names the place",
+    "refused before 7",
+    "refused before 9",
+    "refused after plan A",
+    "13 refused after plan A",
+    "refused after all others",
+    "12 only where plan A has a length",
+    "13 only where plan A has a length",
+    "not tested where saved work is complete",
+];
+
+/// Where a slip of the joints or of a value may be made alone, in the order of these places' numbers in `c/in_c.h`.
 const PLACES: [&str; 6] = [
     "a figure",
     "an importance",
@@ -326,14 +391,34 @@ const PLACES: [&str; 6] = [
     "a sitting that carries on",
 ];
 
+/// The numbers of the first slips of the joints, of a value and of the checks.
+const FIRST_OF_JOINTS: i64 = 1 + OF_CHOICE.len() as i64;
+const FIRST_OF_VALUES: i64 = FIRST_OF_JOINTS + OF_JOINTS.len() as i64;
+const FIRST_OF_CHECKS: i64 = FIRST_OF_VALUES + OF_VALUES.len() as i64;
+
 /// Each slip everywhere and in each place.
-fn of_joints() -> Vec<Slip> {
+fn in_each_place(of: &str, first: i64, names: &[&str]) -> Vec<Slip> {
     let mut slips = Vec::new();
-    for (number, name) in (OF_CHOICE.len() as i64 + 1..).zip(OF_JOINTS) {
-        slips.push(slip(format!("joints: {name}"), &[IN_C, number]));
-        for (place, of) in (1..).zip(PLACES) {
+    for (number, name) in (first..).zip(names) {
+        slips.push(slip(format!("{of}: {name}"), &[IN_C, number]));
+        for (place, within) in (1..).zip(PLACES) {
             let numbers = [IN_C, 100 * place + number];
-            slips.push(slip(format!("joints: {name}, in {of}"), &numbers));
+            slips.push(slip(format!("{of}: {name}, in {within}"), &numbers));
+        }
+    }
+    slips
+}
+
+/// Each slip in each call that takes a table.
+fn of_checks() -> Vec<Slip> {
+    let mut slips = Vec::new();
+    for (number, name) in (FIRST_OF_CHECKS..).zip(OF_CHECKS) {
+        let last = number + 1 == FIRST_OF_CHECKS + OF_CHECKS.len() as i64;
+        for (place, call) in [(1, 1), (2, IMPORTANCE), (3, DIFFERENCE), (5, SITTING)] {
+            if call == SITTING || !last {
+                let numbers = [IN_C, 100 * place + number];
+                slips.push(slip(format!("table: {name}, {}", CALLS[call]), &numbers));
+            }
         }
     }
     slips
@@ -343,7 +428,9 @@ fn slips() -> Vec<Slip> {
     let mut slips = of_refusals();
     slips.extend(of_calls());
     slips.extend(of_choice());
-    slips.extend(of_joints());
+    slips.extend(in_each_place("joints", FIRST_OF_JOINTS, &OF_JOINTS));
+    slips.extend(in_each_place("table", FIRST_OF_VALUES, &OF_VALUES));
+    slips.extend(of_checks());
     slips.extend(OTHERS.map(|(kind, name)| slip(name.into(), &[kind])));
     slips.extend(of_answers());
     slips

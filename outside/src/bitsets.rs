@@ -1,7 +1,7 @@
 //! The rule in C with bit sets: `c/rule.c`, which the build compiles.
 
 use crate::calls::read;
-use crate::plans::{Link, Plan};
+use crate::plans::Plan;
 use crate::rule::{Choice, Figure};
 
 mod c {
@@ -38,10 +38,11 @@ pub fn figure_by(choice: Choice, plan: &Plan, limit: u64) -> Figure {
         Choice::FirstLink => c::rule_figure_first_link,
         Choice::LargestSum => c::rule_figure,
     };
-    assert_eq!(read(&plan.bytes()).as_ref(), Ok(plan));
+    assert!(read(&plan.bytes()).is_ok_and(|read| read.under(&plan.table) == *plan));
     let (n, m) = (plan.nodes.into(), plan.links.len() as u32);
     let ends: Vec<u8> = plan.links.iter().flat_map(|link| link.ends).collect();
-    let values: Vec<[u32; 2]> = plan.links.iter().map(Link::values).collect();
+    let values = plan.links.iter().map(|link| plan.table.values(link));
+    let values: Vec<[u32; 2]> = values.collect();
     // SAFETY: the plan is accepted, and there are 2 * m ends and m pairs of values.
     unsafe { rule(n, m, ends.as_ptr(), values.as_ptr(), limit) }
 }

@@ -3,6 +3,7 @@
 use crate::arithmetic::S;
 use crate::plans::{Link, Plan, LENGTH};
 use crate::rule::{self, Answer, Network};
+use crate::tables::{Table, Under};
 
 pub const MOST_STEPS: u64 = 1_000_000;
 
@@ -61,10 +62,7 @@ pub fn read(bytes: &[u8]) -> Result<Plan, u64> {
         return Err(4);
     }
     let (ends, values) = bytes[4..].split_at(2 * count);
-    let mut plan = Plan {
-        nodes: nodes as u16,
-        links: Vec::new(),
-    };
+    let mut plan = Plan::new(nodes as u16, &[]);
     for (i, (ends, value)) in ends.chunks(2).zip(values.chunks(4)).enumerate() {
         let value = number(value);
         if ends.iter().any(|v| u32::from(*v) >= nodes) {
@@ -81,40 +79,58 @@ pub fn read(bytes: &[u8]) -> Result<Plan, u64> {
     Ok(plan)
 }
 
-/// Rows 7 and 9, which come first.
-pub(crate) fn asked(limit: u64, room: usize) -> Result<(), u64> {
+/// Rows 7, 9, 12 and 13, which come first, and the table.
+pub(crate) fn asked(limit: u64, room: usize, table: &[u8]) -> Result<Table, u64> {
     if limit > MOST_STEPS {
         return Err(7);
     }
     if room < ANSWER {
         return Err(9);
     }
-    Ok(())
+    Table::read(table)
 }
 
-impl Call<'_> {
+impl<'a> Call<'a> {
+    /// The call with this table, which plays no part in a check.
+    pub fn under(self, table: &'a [u8]) -> Under<'a, Call<'a>> {
+        Under { asked: self, table }
+    }
+
+    /// What the call should answer, with a table of no bytes, into a buffer of `room` bytes.
+    pub fn outcome(&self, room: usize) -> Outcome {
+        self.under(&[]).outcome(room)
+    }
+}
+
+impl<'a> From<&Call<'a>> for Under<'a, Call<'a>> {
+    fn from(call: &Call<'a>) -> Under<'a, Call<'a>> {
+        call.under(&[])
+    }
+}
+
+impl Under<'_, Call<'_>> {
     /// What the call should answer into a buffer of `room` bytes.
     pub fn outcome(&self, room: usize) -> Outcome {
-        match *self {
+        match self.asked {
             Call::Check { plan } => read(plan).map(|_| None),
             Call::Figure { plan, limit } => {
-                asked(limit, room)?;
-                let network = Network::from(&read(plan)?);
+                let table = asked(limit, room, self.table)?;
+                let network = Network::from(&read(plan)?.under(&table));
                 Ok(Some(rule::figure(network, limit).into()))
             }
             Call::Importance { plan, place, limit } => {
-                asked(limit, room)?;
+                let table = asked(limit, room, self.table)?;
                 let plan = read(plan)?;
                 if place >= plan.links.len() as u64 {
                     return Err(8);
                 }
-                let network = Network::from(&plan);
+                let network = Network::from(&plan.under(&table));
                 Ok(Some(rule::importance(&network, place as usize, limit)))
             }
             Call::Difference { a, b, limit } => {
-                asked(limit, room)?;
-                let a = Network::from(&read(a)?);
-                let b = Network::from(&read(b).map_err(|r| r + 20)?);
+                let table = asked(limit, room, self.table)?;
+                let plans = [read(a)?, read(b).map_err(|r| r + 20)?];
+                let [a, b] = plans.map(|plan| Network::from(&plan.under(&table)));
                 Ok(Some(rule::difference(a, b, limit)))
             }
         }
@@ -152,7 +168,8 @@ pub fn left(outcome: &Outcome, buffer: &[u8]) -> (u64, Vec<u8>) {
 }
 
 /// The outcome of a call by the rule, to which the library is held.
-pub fn held(call: &Call, room: usize) -> Outcome {
+pub fn held<'a>(call: impl Into<Under<'a, Call<'a>>>, room: usize) -> Outcome {
+    let call = call.into();
     let outcome = call.outcome(room);
     crate::desk::hold(call, room, &outcome);
     outcome

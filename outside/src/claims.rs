@@ -1,37 +1,64 @@
 //! The answers of accepted calls, in which the library and the rule agree, and what is claimed of them.
 
-use crate::calls::{answer_of, held, limits_around, Call};
+use crate::calls::{answer_of, held, limits_around, Call, ANSWER};
 use crate::plans::Plan;
-use crate::rule::{needed, Answer, Network};
-use crate::sittings::{self, Sat, Sitting};
+use crate::random::Random;
+use crate::rule::{needed, Answer, Choice, Network};
+use crate::sittings::{self, Sat, Sitting, NOTHING, WORK};
 use crate::states::{widest, widest_difference, widest_importance, Exact};
+use crate::tables::Table;
+use std::cmp::Ordering;
 
 /// The answer of an accepted call.
-pub fn answer(call: Call) -> Answer {
-    held(&call, 24).unwrap().unwrap()
+fn answer(call: Call, table: &Table) -> Answer {
+    let table = &table.bytes();
+    held(call.under(table), 24).unwrap().unwrap()
 }
 
 pub fn figure(plan: &Plan, limit: u64) -> Answer {
-    let plan = &plan.bytes();
-    answer(Call::Figure { plan, limit })
+    let (file, table) = (&plan.bytes(), &plan.table);
+    answer(Call::Figure { plan: file, limit }, table)
 }
 
 pub fn importance(plan: &Plan, place: usize, limit: u64) -> Answer {
-    let (plan, place) = (&plan.bytes(), place as u64);
-    answer(Call::Importance { plan, place, limit })
+    let (place, table) = (place as u64, &plan.table);
+    let plan = &plan.bytes();
+    answer(Call::Importance { plan, place, limit }, table)
 }
 
 pub fn difference(a: &Plan, b: &Plan, limit: u64) -> Answer {
-    let (a, b) = (&a.bytes(), &b.bytes());
-    answer(Call::Difference { a, b, limit })
+    assert_eq!(a.table, b.table, "one table for both plans");
+    let (table, a, b) = (&a.table, &a.bytes(), &b.bytes());
+    answer(Call::Difference { a, b, limit }, table)
 }
 
-pub fn sat(plan: &[u8], limit: u64, saved: &[u8]) -> Sat {
-    sittings::held(&Sitting { plan, limit, saved }).unwrap()
+pub fn sat(plan: &Plan, limit: u64, saved: &[u8]) -> Sat {
+    let (plan, table) = (&plan.bytes(), &plan.table.bytes());
+    let sitting = Sitting { plan, limit, saved };
+    sittings::held(sitting.under(table)).unwrap()
 }
 
 pub fn sat_answer(sat: &Sat) -> Answer {
     answer_of(sat.answer[..].try_into().unwrap())
+}
+
+/// Work of so many steps by the first link's rule.
+pub fn by_first_link(plan: &Plan, limit: u64) -> Vec<u8> {
+    let (plan, table, saved) = (&plan.bytes(), &plan.table.bytes(), &NOTHING);
+    let first = Sitting { plan, limit, saved }.under(table);
+    let sat = first.outcome_by(Choice::FirstLink, ANSWER, WORK);
+    sat.unwrap().work
+}
+
+/// Sittings from this work to the end, of some steps each: their answers.
+pub fn to_the_end(random: &mut Random, plan: &Plan, saved: &[u8]) -> Vec<Answer> {
+    let mut now = sat(plan, 0, saved);
+    let mut answers = vec![sat_answer(&now)];
+    while !sat_answer(&now).finished {
+        now = sat(plan, 1 + random.of_any_size(40), &now.work);
+        answers.push(sat_answer(&now));
+    }
+    answers
 }
 
 /// The splits that a plan needs.
@@ -60,6 +87,13 @@ pub fn hold(exact: &Exact, answers: &[Answer], widest: i64) {
         assert!(is_narrow(answer, widest), "{answer:?} {widest}");
     }
     hold_nested(answers);
+}
+
+/// A finished answer of an exact number that is no whole one, by the whole one below it.
+pub fn hold_between(exact: &Exact, floor: i64, answer: &Answer) {
+    assert_eq!(exact.compared(floor), Ordering::Greater, "{floor}");
+    assert_eq!(exact.compared(floor + 1), Ordering::Less, "{floor}");
+    assert!(answer.finished && answer.low <= floor && floor < answer.high);
 }
 
 fn answers(needed: u64, worked: impl Fn(u64) -> Answer) -> Vec<Answer> {

@@ -2,6 +2,7 @@
 
 use crate::calls::{answer_of, left, Call, Outcome, ANSWER};
 use crate::sittings::{self, Sat, Sitting};
+use crate::tables::Under;
 
 mod c {
     extern "C" {
@@ -9,6 +10,8 @@ mod c {
         pub fn figure(
             plan: *const u8,
             plan_len: usize,
+            table: *const u8,
+            table_len: usize,
             limit: u64,
             answer: *mut u8,
             answer_len: usize,
@@ -16,6 +19,8 @@ mod c {
         pub fn importance(
             plan: *const u8,
             plan_len: usize,
+            table: *const u8,
+            table_len: usize,
             place: u64,
             limit: u64,
             answer: *mut u8,
@@ -26,6 +31,8 @@ mod c {
             plan_a_len: usize,
             plan_b: *const u8,
             plan_b_len: usize,
+            table: *const u8,
+            table_len: usize,
             limit: u64,
             answer: *mut u8,
             answer_len: usize,
@@ -33,6 +40,8 @@ mod c {
         pub fn sitting(
             plan: *const u8,
             plan_len: usize,
+            table: *const u8,
+            table_len: usize,
             limit: u64,
             saved: *const u8,
             saved_len: usize,
@@ -45,31 +54,46 @@ mod c {
 }
 
 /// Makes the call.
-pub fn made(call: &Call, answer: &mut [u8]) -> u64 {
+pub fn made<'a>(call: impl Into<Under<'a, Call<'a>>>, answer: &mut [u8]) -> u64 {
+    let Under { asked, table } = call.into();
+    let (by, count) = (table.as_ptr(), table.len());
     let (to, room) = (answer.as_mut_ptr(), answer.len());
     // SAFETY: each pointer stands with its length, and the answer is lent to this call alone.
     unsafe {
-        match *call {
+        match asked {
             Call::Check { plan } => c::check(plan.as_ptr(), plan.len()),
-            Call::Figure { plan, limit } => c::figure(plan.as_ptr(), plan.len(), limit, to, room),
+            Call::Figure { plan, limit } => {
+                let (plan, length) = (plan.as_ptr(), plan.len());
+                c::figure(plan, length, by, count, limit, to, room)
+            }
             Call::Importance { plan, place, limit } => {
-                c::importance(plan.as_ptr(), plan.len(), place, limit, to, room)
+                let (plan, length) = (plan.as_ptr(), plan.len());
+                c::importance(plan, length, by, count, place, limit, to, room)
             }
             Call::Difference { a, b, limit } => {
-                c::difference(a.as_ptr(), a.len(), b.as_ptr(), b.len(), limit, to, room)
+                let ([a, b], lengths) = ([a.as_ptr(), b.as_ptr()], [a.len(), b.len()]);
+                let [length, b_length] = lengths;
+                c::difference(a, length, b, b_length, by, count, limit, to, room)
             }
         }
     }
 }
 
 /// Makes the call of a sitting.
-pub fn sat(sitting: &Sitting, answer: &mut [u8], work: &mut [u8]) -> u64 {
-    let Sitting { plan, limit, saved } = *sitting;
+pub fn sat<'a>(
+    sitting: impl Into<Under<'a, Sitting<'a>>>,
+    answer: &mut [u8],
+    work: &mut [u8],
+) -> u64 {
+    let Under { asked, table } = sitting.into();
+    let Sitting { plan, limit, saved } = asked;
     // SAFETY: as above, and the work is lent to this call alone too.
     unsafe {
         c::sitting(
             plan.as_ptr(),
             plan.len(),
+            table.as_ptr(),
+            table.len(),
             limit,
             saved.as_ptr(),
             saved.len(),
@@ -102,7 +126,8 @@ const GUARD: usize = 48;
 
 /// Makes the call into a buffer of `room` bytes with a guard behind, and asserts that the number returned and every byte
 /// there are those of the outcome.
-pub fn hold(call: &Call, room: usize, outcome: &Outcome) {
+pub fn hold<'a>(call: impl Into<Under<'a, Call<'a>>>, room: usize, outcome: &Outcome) {
+    let call = call.into();
     let before = pattern(room + GUARD);
     let mut buffer = before.clone();
     let returned = made(call, &mut buffer[..room]);
@@ -115,17 +140,22 @@ pub fn hold(call: &Call, room: usize, outcome: &Outcome) {
 }
 
 /// The same of a sitting, into two buffers of these sizes, each with a guard behind.
-pub fn hold_sitting(sitting: &Sitting, rooms: [usize; 2], outcome: &Result<Sat, u64>) {
+pub fn hold_sitting<'a>(
+    sitting: impl Into<Under<'a, Sitting<'a>>>,
+    rooms: [usize; 2],
+    outcome: &Result<Sat, u64>,
+) {
     hold_sitting_at(sitting, rooms, [0, 0], outcome);
 }
 
 /// The same, with so many bytes before each buffer.
-pub fn hold_sitting_at(
-    sitting: &Sitting,
+pub fn hold_sitting_at<'a>(
+    sitting: impl Into<Under<'a, Sitting<'a>>>,
     rooms: [usize; 2],
     first: [usize; 2],
     outcome: &Result<Sat, u64>,
 ) {
+    let sitting = sitting.into();
     let before = [0, 1].map(|i| pattern(first[i] + rooms[i] + GUARD));
     let [mut answer, mut work] = before.clone();
     let to_answer = &mut answer[first[0]..][..rooms[0]];
@@ -148,31 +178,33 @@ pub fn check_nothing() -> u64 {
     unsafe { c::check(std::ptr::null(), 0) }
 }
 
-/// `figure` into no bytes at no address.
+/// `figure` with a table of no bytes, and into no bytes, both at no address.
 pub fn figure_into_nothing(plan: &[u8], limit: u64) -> u64 {
+    let (table, answer) = (std::ptr::null(), std::ptr::null_mut());
     // SAFETY: as above, and nothing is written to no bytes.
-    unsafe { c::figure(plan.as_ptr(), plan.len(), limit, std::ptr::null_mut(), 0) }
+    unsafe { c::figure(plan.as_ptr(), plan.len(), table, 0, limit, answer, 0) }
 }
 
-/// A sitting of which one lent part (the plan, the saved work, the answer or the work buffer) is no bytes at no address.
-pub fn sat_with_nothing(sitting: &Sitting, which: usize) -> u64 {
+/// A sitting of which one lent part (the plan, the table, the saved work, the answer or the work buffer) is no bytes at no address.
+pub fn sat_with_nothing(sitting: &Under<Sitting>, which: usize) -> u64 {
     use std::ptr::{null, null_mut};
     let (mut answer, mut work) = ([0; ANSWER], [0; sittings::WORK]);
+    let Sitting { plan, limit, saved } = sitting.asked;
     let lent = |i: usize, bytes: &[u8]| match i == which {
         true => (null(), 0),
         false => (bytes.as_ptr(), bytes.len()),
     };
-    let (plan, saved) = (lent(0, sitting.plan), lent(1, sitting.saved));
+    let (plan, table, saved) = (lent(0, plan), lent(1, sitting.table), lent(2, saved));
     let lent = |i: usize, bytes: &mut [u8]| match i == which {
         true => (null_mut(), 0),
         false => (bytes.as_mut_ptr(), bytes.len()),
     };
-    let (answer, work) = (lent(2, &mut answer), lent(3, &mut work));
-    let limit = sitting.limit;
+    let (answer, work) = (lent(3, &mut answer), lent(4, &mut work));
     // SAFETY: nothing is read of no bytes and nothing written to them.
     unsafe {
         c::sitting(
-            plan.0, plan.1, limit, saved.0, saved.1, answer.0, answer.1, work.0, work.1,
+            plan.0, plan.1, table.0, table.1, limit, saved.0, saved.1, answer.0, answer.1, work.0,
+            work.1,
         )
     }
 }

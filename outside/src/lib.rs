@@ -18,4 +18,5 @@ pub mod repository;
 pub mod rule;
 pub mod sittings;
 pub mod states;
+pub mod tables;
 pub mod versions;

@@ -29,7 +29,7 @@ pub fn text(plan: &[u8], asked: impl Fn(&Call) -> Outcome) -> String {
         let (place, limit) = (i as u64, IMPORTANCE_LIMIT);
         let importance = asked(&Call::Importance { plan, place, limit });
         let Answer { low, high, .. } = importance.unwrap().unwrap();
-        let ([a, b], [units, _]) = (link.ends, link.values());
+        let ([a, b], [units, _]) = (link.ends, data.table.values(link));
         text.push_str(&format!("link {i} {a} {b} {units} {low} {high}\n"));
     }
     text.push_str(&format!("limits {FIGURE_LIMIT} {IMPORTANCE_LIMIT}\n"));

@@ -1,19 +1,11 @@
 //! A plan as data, and its bytes; random plans; damage.
 
-use crate::arithmetic::{joints, ratings, S, SIDES};
+use crate::arithmetic::S;
 use crate::random::Random;
-use std::sync::LazyLock;
+use crate::tables::Table;
 
 /// A value from here on is a length.
 pub const LENGTH: u32 = 1 << 31;
-
-static RATINGS: LazyLock<Vec<u32>> = LazyLock::new(ratings);
-
-/// The values of the lengths, low and high.
-static LENGTHS: LazyLock<Vec<[u32; 2]>> = LazyLock::new(|| {
-    let both = |rating: &u32| SIDES.map(|side| joints(side, *rating));
-    RATINGS.iter().map(both).collect()
-});
 
 /// A link as the file has it.
 #[derive(Clone, Copy, Debug, PartialEq, Eq)]
@@ -23,26 +15,18 @@ pub struct Link {
 }
 
 impl Link {
-    /// The rating T of a length; none of a value in units.
-    pub fn rating(&self) -> Option<u32> {
-        let length = self.value.checked_sub(LENGTH)?;
-        Some(RATINGS[length as usize])
-    }
-
-    /// The low and the high value in units: of a length with its two joints, of a value in units that value.
-    pub fn values(&self) -> [u32; 2] {
-        match self.value.checked_sub(LENGTH) {
-            Some(length) => LENGTHS[length as usize],
-            None => [self.value; 2],
-        }
+    /// Its length in hundred metres; none of a value in units.
+    pub fn length(&self) -> Option<u32> {
+        self.value.checked_sub(LENGTH)
     }
 }
 
-/// Any sizes, ends and values, right or wrong.
+/// Any sizes, ends and values, right or wrong, and the table that the lengths are rated by, which is not in the file.
 #[derive(Clone, Debug, PartialEq, Eq)]
 pub struct Plan {
     pub nodes: u16,
     pub links: Vec<Link>,
+    pub table: Table,
 }
 
 impl Plan {
@@ -54,22 +38,47 @@ impl Plan {
         Plan {
             nodes,
             links: links.iter().map(link).collect(),
+            table: Table::BuiltIn,
         }
+    }
+
+    /// The same plan under another table.
+    pub fn under(mut self, table: &Table) -> Plan {
+        self.table = table.clone();
+        self
+    }
+
+    /// Two nodes and links of these values between them.
+    pub fn between(values: &[u32]) -> Plan {
+        let links: Vec<(u8, u8, u32)> = values.iter().map(|value| (0, 1, *value)).collect();
+        Plan::new(2, &links)
+    }
+
+    /// A plan of so many links, at least 13, in which all hangs on the one at this place, of a length: five nodes are joined each to
+    /// each by links of S, the length leads to a sixth, the next link, of S, from there to a seventh; the others are loops of the same
+    /// length.
+    pub fn hanging_on(length: u32, place: usize, count: usize) -> Plan {
+        let next = (place + 1) % count;
+        let mut links = vec![(0, 0, LENGTH + length); count];
+        let mut others = (0..count).filter(|other| ![place, next].contains(other));
+        for [a, b] in every_pair(5) {
+            links[others.next().unwrap()] = (a, b, S);
+        }
+        links[place] = (0, 5, LENGTH + length);
+        links[next] = (5, 6, S);
+        Plan::new(7, &links)
     }
 
     /// Links of one value between the given ends.
     pub fn alike(nodes: u16, value: u32, ends: &[[u8; 2]]) -> Plan {
-        let link = |&ends: &[u8; 2]| Link { ends, value };
-        Plan {
-            nodes,
-            links: ends.iter().map(link).collect(),
-        }
+        let links: Vec<(u8, u8, u32)> = ends.iter().map(|[a, b]| (*a, *b, value)).collect();
+        Plan::new(nodes, &links)
     }
 
     /// How many of its links are given by length.
     pub fn lengths(&self) -> usize {
-        let ratings = self.links.iter().filter_map(Link::rating);
-        ratings.count()
+        let lengths = self.links.iter().filter_map(Link::length);
+        lengths.count()
     }
 
     pub fn bytes(&self) -> Vec<u8> {
@@ -146,15 +155,43 @@ impl Plan {
         Plan {
             nodes: nodes.into(),
             links,
+            table: Table::BuiltIn,
         }
     }
 
     /// The same plan with the rating of each length as a value in units: what it stood for without joints.
     pub fn without_joints(mut self) -> Plan {
         for link in &mut self.links {
-            link.value = link.rating().unwrap_or(link.value);
+            link.value = self.table.rating(link).unwrap_or(link.value);
         }
         self
+    }
+
+    /// Meshed plans and plans of all kinds, with lengths.
+    pub fn of_lengths(random: &mut Random, most_links: usize) -> Plan {
+        let nodes = 3 + random.below(10) as u8;
+        let count = 3 + random.below(most_links - 2);
+        let plan = match random.below(3) {
+            0 => Plan::random_of(random, nodes, count),
+            1 => Plan::meshed(random, 4 + nodes % 4, count),
+            _ => Plan::meshed(random, nodes, count),
+        };
+        let of_ten = of_ten(random);
+        plan.with_lengths(random, of_ten)
+    }
+
+    /// The same of few nodes.
+    pub fn small_of_lengths(random: &mut Random, most_links: usize) -> Plan {
+        let of_ten = of_ten(random);
+        let plan = match random.below(2) {
+            0 => Plan::random(random, 8, most_links),
+            _ => {
+                let nodes = 4 + random.below(3) as u8;
+                let count = 6 + random.below(most_links - 5);
+                Plan::meshed(random, nodes, count)
+            }
+        };
+        plan.with_lengths(random, of_ten)
     }
 
     /// The same plan with lengths for so many of ten links.
@@ -165,6 +202,14 @@ impl Plan {
             }
         }
         self
+    }
+}
+
+/// How many of ten links are lengths: all in half of the plans, and some in the others.
+pub fn of_ten(random: &mut Random) -> usize {
+    match random.below(2) {
+        0 => 10,
+        _ => 3 + random.below(5),
     }
 }
 

@@ -23,7 +23,12 @@ pub fn plan(name: &str) -> Vec<u8> {
     bytes(&format!("plans/{name}.plan"))
 }
 
-/// The names of the sample plans that have a file with this ending, in order.
+/// The bytes of a sample table.
+pub fn table(name: &str) -> Vec<u8> {
+    bytes(&format!("plans/{name}.table"))
+}
+
+/// The names of the sample plans and tables that have a file with this ending, in order.
 pub fn plans_with(ending: &str) -> Vec<String> {
     let files = fs::read_dir(path("plans")).unwrap();
     let name = |file: PathBuf| {

@@ -113,7 +113,7 @@ pub struct Answer {
 impl From<&Plan> for Network {
     fn from(plan: &Plan) -> Network {
         let link = |l: &crate::plans::Link| {
-            let [low, high] = l.values();
+            let [low, high] = plan.table.values(l);
             let ends = l.ends;
             Link { ends, low, high }
         };
@@ -326,6 +326,18 @@ pub fn needed_by(choice: Choice, network: Network) -> u64 {
             let place = network.chosen(choice);
             let taken = network.split(place);
             1 + needed_by(choice, taken.sound) + needed_by(choice, taken.broken)
+        }
+    }
+}
+
+impl Answer {
+    /// A finished one that takes no split.
+    pub fn at_once(low: i64, high: i64) -> Answer {
+        Answer {
+            low,
+            high,
+            steps: 0,
+            finished: true,
         }
     }
 }

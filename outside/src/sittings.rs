@@ -5,6 +5,7 @@ use crate::arithmetic::S;
 use crate::calls::{answer_bytes, asked, number, read, ANSWER, MOST_STEPS};
 use crate::plans::Plan;
 use crate::rule::{figure, needed, Choice, Figure, Link, Network, Step, CHOICES};
+use crate::tables::Under;
 
 /// The bytes that a buffer for saved work has to have.
 pub const WORK: usize = 776;
@@ -316,7 +317,36 @@ impl Run {
     }
 }
 
-impl Sitting<'_> {
+impl<'a> Sitting<'a> {
+    /// The sitting with this table.
+    pub fn under(self, table: &'a [u8]) -> Under<'a, Sitting<'a>> {
+        Under { asked: self, table }
+    }
+
+    /// What the sitting should write, with a table of no bytes, to buffers of these sizes, or the number that it is refused with.
+    pub fn outcome(&self, answer_room: usize, work_room: usize) -> Result<Sat, u64> {
+        self.under(&[]).outcome(answer_room, work_room)
+    }
+
+    /// The same where every split that it takes is by this choice.
+    pub fn outcome_by(
+        &self,
+        choice: Choice,
+        answer_room: usize,
+        work_room: usize,
+    ) -> Result<Sat, u64> {
+        let under = self.under(&[]);
+        under.outcome_by(choice, answer_room, work_room)
+    }
+}
+
+impl<'a> From<&Sitting<'a>> for Under<'a, Sitting<'a>> {
+    fn from(sitting: &Sitting<'a>) -> Under<'a, Sitting<'a>> {
+        sitting.under(&[])
+    }
+}
+
+impl Under<'_, Sitting<'_>> {
     /// What the sitting should write to buffers of these sizes, or the number that it is refused with.
     pub fn outcome(&self, answer_room: usize, work_room: usize) -> Result<Sat, u64> {
         self.outcome_by(Choice::LargestSum, answer_room, work_room)
@@ -329,19 +359,18 @@ impl Sitting<'_> {
         answer_room: usize,
         work_room: usize,
     ) -> Result<Sat, u64> {
-        asked(self.limit, answer_room)?;
-        if work_room < WORK {
-            return Err(9);
-        }
-        let plan = Network::from(&read(self.plan)?);
-        match accepted(self.saved)? {
+        let Sitting { plan, limit, saved } = self.asked;
+        let room = if work_room < WORK { 0 } else { answer_room };
+        let table = asked(limit, room, self.table)?;
+        let plan = Network::from(&read(plan)?.under(&table));
+        match accepted(saved)? {
             Saved::Complete => Ok(Sat {
-                answer: self.saved[8..].into(),
-                work: self.saved.into(),
+                answer: saved[8..].into(),
+                work: saved.into(),
             }),
             Saved::Begun(begun) => {
                 let (mut run, next) = Run::resumed(plan, &begun)?;
-                let limit = self.limit.min(MOST_STEPS - run.taken);
+                let limit = limit.min(MOST_STEPS - run.taken);
                 let figure = run.carry_on(next, choice, limit, |_| ());
                 Ok(run.sat(figure))
             }
@@ -361,12 +390,17 @@ pub fn left(outcome: &Result<Sat, u64>, answer: &[u8], work: &[u8]) -> (u64, Vec
 }
 
 /// The outcome of a sitting into buffers of just the bytes that it needs, to which the library is held.
-pub fn held(sitting: &Sitting) -> Result<Sat, u64> {
+pub fn held<'a>(sitting: impl Into<Under<'a, Sitting<'a>>>) -> Result<Sat, u64> {
     held_into(sitting, ANSWER, WORK)
 }
 
 /// The same into buffers of these sizes.
-pub fn held_into(sitting: &Sitting, answer: usize, work: usize) -> Result<Sat, u64> {
+pub fn held_into<'a>(
+    sitting: impl Into<Under<'a, Sitting<'a>>>,
+    answer: usize,
+    work: usize,
+) -> Result<Sat, u64> {
+    let sitting = sitting.into();
     let outcome = sitting.outcome(answer, work);
     crate::desk::hold_sitting(sitting, [answer, work], &outcome);
     outcome

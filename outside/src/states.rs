@@ -4,6 +4,7 @@
 use crate::arithmetic::{JOINT, S};
 use crate::plans::{Link, Plan};
 use crate::rule::Answer;
+use crate::tables::Table;
 use std::cmp::Ordering;
 
 /// The most links that are summed over.
@@ -78,7 +79,7 @@ impl PartialOrd for Whole {
 
 /// The power of S that makes one in the parts of this link.
 fn power(link: &Link) -> u32 {
-    match link.rating() {
+    match link.length() {
         Some(_) => 3,
         None => 1,
     }
@@ -90,8 +91,8 @@ fn powers(plan: &Plan) -> usize {
 }
 
 /// The chances that the link is sound and that it is broken, in its parts.
-fn weights(link: &Link) -> [u128; 2] {
-    let sound = match link.rating() {
+fn weights(table: &Table, link: &Link) -> [u128; 2] {
+    let sound = match table.rating(link) {
         Some(rating) => u128::from(rating) * u128::from(JOINT) * u128::from(JOINT),
         None => link.value.into(),
     };
@@ -124,8 +125,8 @@ fn sum(links: &[([u8; 2], [u128; 2])], nodes: usize, groups: Groups) -> Whole {
 /// N of the plan, with the nodes of the given ends joined from the start.
 fn connected_states(plan: &Plan, joined: Option<[u8; 2]>) -> Whole {
     assert!(plan.links.len() <= MOST);
-    let links = plan.links.iter().map(|link| (link.ends, weights(link)));
-    let links: Vec<_> = links.collect();
+    let link = |link: &Link| (link.ends, weights(&plan.table, link));
+    let links: Vec<_> = plan.links.iter().map(link).collect();
     let alone = std::array::from_fn(|v| v as u8);
     let groups = joined.map_or(alone, |ends| merged(alone, ends));
     sum(&links, plan.nodes.into(), groups)

@@ -10,10 +10,10 @@ pub type Version = fn(&Plan, u64) -> [u8; ANSWER];
 
 /// The calculator's library, through its figure call.
 pub fn library(plan: &Plan, limit: u64) -> [u8; ANSWER] {
-    let plan = &plan.bytes();
+    let (plan, table) = (&plan.bytes(), &plan.table.bytes());
     let mut answer = [0; ANSWER];
-    let call = Call::Figure { plan, limit };
-    assert_eq!(desk::made(&call, &mut answer), 0);
+    let call = Call::Figure { plan, limit }.under(table);
+    assert_eq!(desk::made(call, &mut answer), 0);
     answer
 }
 

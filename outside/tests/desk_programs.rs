@@ -8,6 +8,7 @@ use outside::programs::{compiled, ran};
 use outside::random::Random;
 use outside::rule::{Choice, CHOICES};
 use outside::sittings::{self, Sitting, NOTHING, WORK};
+use outside::tables::{Table, Under};
 use std::fs::{self, File};
 use std::path::{Path, PathBuf};
 use std::process::Command;
@@ -17,24 +18,24 @@ fn written(name: &str) -> PathBuf {
     Path::new(env!("CARGO_TARGET_TMPDIR")).join(name)
 }
 
-/// A call as `c/calls.c` reads it: which one, limit and place, the answer buffer, two plans or a plan and saved work, and the work
-/// buffer.
-fn record(numbers: [u64; 3], lent: [&[u8]; 4]) -> Vec<u8> {
+/// A call as `c/calls.c` reads it: which one, limit and place, the answer buffer, two plans or a plan and saved work, the work
+/// buffer, and the table.
+fn record(numbers: [u64; 3], lent: [&[u8]; 5]) -> Vec<u8> {
     let lengths = lent.map(|bytes| bytes.len() as u64);
     let numbers = numbers.iter().chain(&lengths);
     let numbers: Vec<u8> = numbers.flat_map(|x| x.to_le_bytes()).collect();
     [numbers, lent.concat()].concat()
 }
 
-fn record_of_call(call: &Call, buffer: &[u8]) -> Vec<u8> {
+fn record_of_call(call: &Under<Call>, buffer: &[u8]) -> Vec<u8> {
     let none: &[u8] = &[];
-    let (which, limit, place, a, b) = match *call {
+    let (which, limit, place, a, b) = match call.asked {
         Call::Check { plan } => (0, 0, 0, plan, none),
         Call::Figure { plan, limit } => (1, limit, 0, plan, none),
         Call::Importance { plan, place, limit } => (2, limit, place, plan, none),
         Call::Difference { a, b, limit } => (3, limit, 0, a, b),
     };
-    record([which, limit, place], [buffer, a, b, none])
+    record([which, limit, place], [buffer, a, b, none, call.table])
 }
 
 fn any_call<'a>(random: &mut Random, plan: &'a [u8], good: &'a [u8]) -> Call<'a> {
@@ -64,25 +65,30 @@ struct Trial {
     shown: String,
 }
 
-fn trial(call: &Call, room: usize) -> Trial {
+fn trial<'a>(call: impl Into<Under<'a, Call<'a>>>, room: usize) -> Trial {
+    let call = call.into();
     let before = pattern(room);
     let (number, buffer) = left(&call.outcome(room), &before);
+    let table = call.table.len();
     Trial {
-        input: record_of_call(call, &before),
+        input: record_of_call(&call, &before),
         output: [&number.to_le_bytes(), &buffer[..]].concat(),
-        shown: format!("{call:?}, room {room}"),
+        shown: format!("{:?}, a table of {table} bytes, room {room}", call.asked),
     }
 }
 
-fn trial_of_sitting(sitting: &Sitting, rooms: [usize; 2]) -> Trial {
+fn trial_of_sitting<'a>(sitting: impl Into<Under<'a, Sitting<'a>>>, rooms: [usize; 2]) -> Trial {
+    let sitting = sitting.into();
     let [answer, work] = rooms.map(pattern);
     let outcome = sitting.outcome(rooms[0], rooms[1]);
     let (number, answer_left, work_left) = sittings::left(&outcome, &answer, &work);
-    let Sitting { plan, limit, saved } = *sitting;
+    let Under { asked, table } = sitting;
+    let Sitting { plan, limit, saved } = asked;
+    let count = table.len();
     Trial {
-        input: record([4, limit, 0], [&answer, plan, saved, &work]),
+        input: record([4, limit, 0], [&answer, plan, saved, &work, table]),
         output: [&number.to_le_bytes(), &answer_left[..], &work_left].concat(),
-        shown: format!("{sitting:?}, rooms {rooms:?}"),
+        shown: format!("{asked:?}, a table of {count} bytes, rooms {rooms:?}"),
     }
 }
 
@@ -152,6 +158,33 @@ fn the_largest_plans_under_a_memory_checker() {
         .map(|(call, room)| trial(&call, room))
         .collect();
     checked(&calls, "largest");
+}
+
+/// Tables that are right, and the same damaged: bytes changed, cut and lengthened. The plans are right, with lengths, and the files too
+/// short for a plan.
+#[test]
+fn tables_under_a_memory_checker() {
+    let mut random = Random::new(44);
+    let mut trials = Vec::new();
+    let mut plan = || Plan::small_of_lengths(&mut random, 10).bytes();
+    let plans = [plan(), plan(), plan(), vec![2, 0]];
+    for table in [Table::telling(), Table::random(&mut random)] {
+        let mut tables = vec![table.bytes(); 20];
+        let damaged = damaged(&mut random, &table.bytes());
+        tables.extend(damaged.into_iter().step_by(11));
+        for table in &tables {
+            let [a, b] = [(); 2].map(|()| &plans[random.below(plans.len())]);
+            let call = any_call(&mut random, a, b);
+            let room = 16 - random.below(10) / 9;
+            trials.push(trial(call.under(table), room));
+            let (plan, limit, saved) = (a, random.up_to(12), &NOTHING);
+            let sitting = Sitting { plan, limit, saved };
+            let rooms = rooms(&mut random);
+            trials.push(trial_of_sitting(sitting.under(table), rooms));
+        }
+    }
+    assert!(trials.len() > 3_000, "too few: {}", trials.len());
+    checked(&trials, "tables");
 }
 
 /// The work of a first sitting by either choice.

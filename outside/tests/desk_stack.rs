@@ -8,17 +8,19 @@ use outside::random::Random;
 use outside::repository::plan;
 use outside::rule::{needed, Choice, Network};
 use outside::sittings::{self, most_open_by, most_splits, Sat, Sitting, NOTHING, RUNNING, WORK};
+use outside::tables::{Table, Under};
 use std::thread;
 
 const STACK: usize = 512 * 1024;
 
 /// Makes the call on a thread with a stack of that size, where an overrun ends the whole test.
-fn on_a_small_stack(call: Call) {
+fn on_a_small_stack<'a>(call: impl Into<Under<'a, Call<'a>>>) {
+    let call = call.into();
     let mut buffer = pattern(24);
     let before = buffer.clone();
     let returned = thread::scope(|scope| {
         let small = thread::Builder::new().stack_size(STACK);
-        let run = small.spawn_scoped(scope, || made(&call, &mut buffer));
+        let run = small.spawn_scoped(scope, || made(call, &mut buffer));
         run.unwrap().join().unwrap()
     });
     assert_eq!((returned, buffer), left(&call.outcome(24), &before));
@@ -29,18 +31,40 @@ fn the_worst_chain_of_splits() {
     assert_eq!(needed(Network::from(&Plan::deepest())), 27_368);
     let plan = &Plan::deepest().bytes();
     let limit = MOST_STEPS;
-    on_a_small_stack(Call::Check { plan });
-    on_a_small_stack(Call::Figure { plan, limit });
-    on_a_small_stack(Call::Importance {
+    on_a_small_stack(&Call::Check { plan });
+    on_a_small_stack(&Call::Figure { plan, limit });
+    on_a_small_stack(&Call::Importance {
         plan,
         place: 63,
         limit,
     });
-    on_a_small_stack(Call::Difference {
+    on_a_small_stack(&Call::Difference {
         a: plan,
         b: plan,
         limit,
     });
+}
+
+/// The same with each link a length, under a buyer's table; set aside and carried on too.
+#[test]
+fn the_worst_chain_of_splits_under_a_table() {
+    let mut random = Random::new(72);
+    let plan = Plan::deepest().with_lengths(&mut random, 10);
+    let (plan, table) = (&plan.bytes(), &Table::telling().bytes());
+    let (a, b, place, limit) = (plan, plan, 63, MOST_STEPS);
+    on_a_small_stack(Call::Figure { plan, limit }.under(table));
+    on_a_small_stack(Call::Importance { plan, place, limit }.under(table));
+    on_a_small_stack(Call::Difference { a, b, limit }.under(table));
+    let mut saved = NOTHING.to_vec();
+    for limit in [26_894, 1, MOST_STEPS] {
+        let sitting = Sitting {
+            plan,
+            limit,
+            saved: &saved,
+        };
+        saved = sitting_on_a_small_stack(sitting.under(table)).work;
+    }
+    assert_eq!(saved[2], 1);
 }
 
 #[test]
@@ -48,8 +72,8 @@ fn sixty_four_loops_and_parallels() {
     for ends in [[0, 0], [0, 1]] {
         let plan = &Plan::alike(2, S / 2, &[ends; 64]).bytes();
         let limit = 0;
-        on_a_small_stack(Call::Figure { plan, limit });
-        on_a_small_stack(Call::Importance {
+        on_a_small_stack(&Call::Figure { plan, limit });
+        on_a_small_stack(&Call::Importance {
             plan,
             place: 9,
             limit,
@@ -58,7 +82,8 @@ fn sixty_four_loops_and_parallels() {
 }
 
 /// The same of a sitting, and what it writes.
-fn sitting_on_a_small_stack(sitting: &Sitting) -> Sat {
+fn sitting_on_a_small_stack<'a>(sitting: impl Into<Under<'a, Sitting<'a>>>) -> Sat {
+    let sitting = sitting.into();
     let [mut answer, mut work] = [24, WORK + 8].map(pattern);
     let before = [answer.clone(), work.clone()];
     let returned = thread::scope(|scope| {
@@ -122,36 +147,49 @@ fn fifty_five_open_splits_carried_on() {
 
 const THREADS: usize = 8;
 
-/// Each thread makes all the calls, each from another one on, so that different plans are worked at the same time.
-#[test]
-fn eight_threads_at_once() {
+/// Plans, and a table for each: two have none.
+fn plans_and_tables() -> (Vec<Vec<u8>>, Vec<Vec<u8>>) {
     let mut random = Random::new(71);
     let mut files = vec![plan("mesh"), plan("two-crossings"), Plan::deepest().bytes()];
     files.extend([9, 20, 32].map(|nodes| Plan::random_of(&mut random, nodes, 64).bytes()));
+    let [a, b] = [(); 2].map(|()| Table::random(&mut random));
+    let tables = [Table::BuiltIn, Table::telling(), a, Table::BuiltIn, b];
+    let tables = tables.iter().cycle().map(Table::bytes);
+    let tables = tables.take(files.len()).collect();
+    (files, tables)
+}
+
+/// Each thread makes all the calls, each from another one on, so that different plans are worked at the same time, under different
+/// tables.
+#[test]
+fn eight_threads_at_once() {
+    let (files, tables) = plans_and_tables();
     let (limit, place) = (3_000, 20);
     let others = files.iter().cycle().skip(1);
-    let calls: Vec<Call> = files
+    let calls: Vec<Under<Call>> = files
         .iter()
         .zip(others)
-        .flat_map(|(plan, b)| {
+        .zip(&tables)
+        .flat_map(|((plan, b), table)| {
             [
                 Call::Check { plan },
                 Call::Figure { plan, limit },
                 Call::Importance { plan, place, limit },
                 Call::Difference { a: plan, b, limit },
             ]
+            .map(|call| call.under(table))
         })
         .collect();
     let outcomes: Vec<Outcome> = calls.iter().map(|call| call.outcome(24)).collect();
-    let saved = |plan: &Vec<u8>| {
+    let saved = |(plan, table): (&Vec<u8>, &Vec<u8>)| {
         let (limit, saved) = (700, &NOTHING);
-        let first = Sitting { plan, limit, saved };
+        let first = Sitting { plan, limit, saved }.under(table);
         first.outcome(16, WORK).unwrap().work
     };
-    let works: Vec<Vec<u8>> = files.iter().map(saved).collect();
-    let lent = files.iter().zip(&works);
-    let sittings: Vec<Sitting> = lent
-        .map(|(plan, saved)| Sitting { plan, limit, saved })
+    let works: Vec<Vec<u8>> = files.iter().zip(&tables).map(saved).collect();
+    let lent = files.iter().zip(&works).zip(&tables);
+    let sittings: Vec<Under<Sitting>> = lent
+        .map(|((plan, saved), table)| Sitting { plan, limit, saved }.under(table))
         .collect();
     let sats: Vec<Result<Sat, u64>> = sittings.iter().map(|s| s.outcome(24, WORK)).collect();
     thread::scope(|scope| {
@@ -162,9 +200,9 @@ fn eight_threads_at_once() {
             let run = move || {
                 for i in 0..4 * calls.len() {
                     let i = (i + 3 * first) % calls.len();
-                    hold(&calls[i], 24, &outcomes[i]);
+                    hold(calls[i], 24, &outcomes[i]);
                     let i = i % sittings.len();
-                    hold_sitting(&sittings[i], [24, WORK], &sats[i]);
+                    hold_sitting(sittings[i], [24, WORK], &sats[i]);
                 }
             };
             small.spawn_scoped(scope, run).unwrap();

@@ -228,11 +228,12 @@ fn no_bytes_at_no_address() {
     assert_eq!(desk::check_nothing(), 1);
     assert_eq!(desk::figure_into_nothing(plan, 5), 9);
     assert_eq!(desk::figure_into_nothing(plan, 1_000_001), 7);
-    let (saved, limit) = (&NOTHING, 5);
+    let (saved, limit, table) = (&NOTHING, 5, &[0]);
     let sitting = Sitting { plan, limit, saved };
-    let numbers = [1, 10, 9, 9];
-    for (which, number) in numbers.into_iter().enumerate() {
-        assert_eq!(desk::sat_with_nothing(&sitting, which), number);
+    assert_eq!(desk::sat_with_nothing(&sitting.under(table), 1), 0);
+    let numbers = [(0, 1), (2, 10), (3, 9), (4, 9)];
+    for (which, number) in numbers {
+        assert_eq!(desk::sat_with_nothing(&sitting.under(&[]), which), number);
     }
 }
 

@@ -5,8 +5,9 @@ use outside::arithmetic::S;
 use outside::calls::Call;
 use outside::plans::Plan;
 use outside::programs::{compiled, compiled_as_cpp, ran};
-use outside::repository::{path, plan};
+use outside::repository::{bytes, path, plan};
 use outside::sittings::{Begun, Sitting, NOTHING, WORK};
+use outside::tables::Under;
 use std::fs;
 use std::path::{Path, PathBuf};
 use std::process::Command;
@@ -29,8 +30,8 @@ fn run(program: &Path, words: &[&Path]) -> (i32, String, String) {
 }
 
 /// The line that stands for what a call answers.
-fn line(name: &str, call: Call) -> String {
-    match call.outcome(16) {
+fn line<'a>(name: &str, call: impl Into<Under<'a, Call<'a>>>) -> String {
+    match call.into().outcome(16) {
         Ok(answer) => format!("{name}: {}\n", answer.unwrap()),
         Err(number) if [5, 6].contains(&(number % 256 % 20)) => {
             format!(
@@ -44,10 +45,16 @@ fn line(name: &str, call: Call) -> String {
 }
 
 fn lines(a: &[u8], b: &[u8], limit: u64) -> String {
+    lines_under(&[], a, b, limit)
+}
+
+fn lines_under(table: &[u8], a: &[u8], b: &[u8], limit: u64) -> String {
+    let figure = |plan| Call::Figure { plan, limit }.under(table);
+    let difference = Call::Difference { a, b, limit }.under(table);
     [
-        line("A", Call::Figure { plan: a, limit }),
-        line("B", Call::Figure { plan: b, limit }),
-        line("A - B", Call::Difference { a, b, limit }),
+        line("A", figure(a)),
+        line("B", figure(b)),
+        line("A - B", difference),
     ]
     .concat()
 }
@@ -116,13 +123,49 @@ fn refused_plans() {
     }
 }
 
+/// All three answers are under the table, which is refused whole where it is longer.
+#[test]
+fn a_table_behind_the_limit() {
+    let program = difference("table");
+    let [a, b] = ["two-crossings", "one-crossing"].map(plan);
+    let files = ["two-crossings", "one-crossing"].map(|name| path(&format!("plans/{name}.plan")));
+    let armoured = bytes("plans/armoured.table");
+    let longer = |count: usize| [&armoured[..], &vec![0; count]].concat();
+    let rises = [&armoured[..2_044], &u32::MAX.to_le_bytes()].concat();
+    let tables = [
+        (armoured.clone(), 0),
+        (armoured[..1].to_vec(), 12),
+        (armoured[..2_047].to_vec(), 12),
+        (longer(1), 12),
+        (longer(5_000), 12),
+        (rises, 13),
+    ];
+    for (table, number) in tables {
+        let name = written("behind.table");
+        fs::write(&name, &table).unwrap();
+        for limit in ["5", "20000"] {
+            let words: [&Path; 4] = [&files[0], &files[1], Path::new(limit), &name];
+            let (status, text, said) = run(&program, &words);
+            assert_eq!(text, lines_under(&table, &a, &b, limit.parse().unwrap()));
+            assert_eq!((status, &said[..]), (i32::from(number != 0), ""));
+            let refused = format!("refused {number}\n");
+            assert_eq!(
+                text.matches(&refused).count(),
+                if number == 0 { 0 } else { 3 }
+            );
+        }
+    }
+}
+
 #[test]
 fn wrong_words() {
     let program = difference("words");
     let plan = path("plans/example.plan");
     let missing = written("no-such-plan");
     let (missing, folder) = (&missing, &path("plans"));
-    let wrong: [&[&Path]; 8] = [
+    let (limit, empty) = (Path::new("5"), &written("empty.table"));
+    fs::write(empty, []).unwrap();
+    let wrong: [&[&Path]; 11] = [
         &[],
         &[&plan],
         &[&plan, missing],
@@ -130,7 +173,10 @@ fn wrong_words() {
         &[&plan, folder],
         &[&plan, &plan, Path::new("-1")],
         &[&plan, &plan, Path::new("99999999999999999999")],
-        &[&plan, &plan, Path::new("5"), Path::new("5")],
+        &[&plan, &plan, limit, missing],
+        &[&plan, &plan, limit, folder],
+        &[&plan, &plan, limit, empty],
+        &[&plan, &plan, limit, &plan, limit],
     ];
     for words in wrong {
         let (status, text, said) = run(&program, words);
@@ -166,7 +212,7 @@ fn the_mesh_in_sittings() {
             };
             let sat = first.outcome(16, WORK).unwrap();
             let limit = total;
-            let one = line("so far", Call::Figure { plan, limit });
+            let one = line("so far", &Call::Figure { plan, limit });
             let words: [&Path; 3] = [&file, &saved, Path::new("compare")];
             let (words, both) = match total {
                 4_000 => (&words[..], one.replace("so far", "in one run")),

@@ -3,14 +3,13 @@
 
 use outside::arithmetic::S;
 use outside::calls::{answer_bytes, MOST_STEPS};
-use outside::claims::{difference, figure, importance, sat, sat_answer};
+use outside::claims::{difference, figure, hold_between, importance, sat, sat_answer};
 use outside::listing::{by_the_rule, written};
 use outside::plans::{Plan, LENGTH};
 use outside::random::Random;
 use outside::rule::Answer;
 use outside::sittings::{sizes, Sat, NOTHING};
 use outside::states::Exact;
-use std::cmp::Ordering;
 use std::iter::successors;
 
 const ONE: u128 = S as u128;
@@ -58,34 +57,18 @@ fn lengths() -> Vec<Length> {
     (0..512).zip(ratings).map(length).collect()
 }
 
-/// A finished answer that takes no split.
-fn at_once(low: i64, high: i64) -> Answer {
-    Answer {
-        low,
-        high,
-        steps: 0,
-        finished: true,
-    }
-}
-
 fn units(x: u128) -> i64 {
     i64::try_from(x).unwrap()
 }
 
-/// Two nodes and links of these values between them.
-fn between(values: &[u32]) -> Plan {
-    let links: Vec<(u8, u8, u32)> = values.iter().map(|value| (0, 1, *value)).collect();
-    Plan::new(2, &links)
-}
-
 fn alone(length: &Length) -> Plan {
-    between(&[LENGTH + length.k])
+    Plan::between(&[LENGTH + length.k])
 }
 
 #[test]
 fn every_length_alone() {
     for length in lengths() {
-        let expected = at_once(units(length.low), units(length.high));
+        let expected = Answer::at_once(units(length.low), units(length.high));
         for limit in [0, 1, MOST_STEPS] {
             assert_eq!(figure(&alone(&length), limit), expected, "{}", length.k);
         }
@@ -118,7 +101,10 @@ fn the_lengths_that_are_written_down() {
         (510, 858_023_972, 858_023_974),
         (511, 857_766_565, 857_766_567),
     ] {
-        assert_eq!(figure(&between(&[LENGTH + k]), 0), at_once(low, high));
+        assert_eq!(
+            figure(&Plan::between(&[LENGTH + k]), 0),
+            Answer::at_once(low, high)
+        );
     }
 }
 
@@ -127,7 +113,7 @@ fn the_lengths_that_are_written_down() {
 fn rounding_once_would_differ_at_509_lengths() {
     let once = |length: &Length| {
         let chance = length.rating * J * J;
-        at_once(
+        Answer::at_once(
             units(below(chance, ONE * ONE)),
             units(above(chance, ONE * ONE)),
         )
@@ -144,11 +130,11 @@ fn every_length_by_importance() {
     let whole = i64::from(S);
     for length in lengths() {
         let (low, high) = (units(length.low), units(length.high));
-        let plan = between(&[S / 10 * 9, LENGTH + length.k]);
+        let plan = Plan::between(&[S / 10 * 9, LENGTH + length.k]);
         for limit in [0, MOST_STEPS] {
-            let left = at_once(whole - high, whole - low);
+            let left = Answer::at_once(whole - high, whole - low);
             assert_eq!(importance(&plan, 0, limit), left, "{}", length.k);
-            let tenth = at_once(whole / 10, whole / 10);
+            let tenth = Answer::at_once(whole / 10, whole / 10);
             assert_eq!(importance(&plan, 1, limit), tenth, "{}", length.k);
         }
     }
@@ -162,13 +148,13 @@ fn every_length_beside_a_loop() {
         let values = [LENGTH + length.k, LENGTH + other.k];
         let plan = Plan::new(2, &[(0, 1, values[0]), (1, 1, values[1])]);
         let (low, high) = (units(length.low), units(length.high));
-        assert_eq!(figure(&plan, 0), at_once(low, high));
-        assert_eq!(importance(&plan, 1, 0), at_once(0, high - low));
-        let certain = at_once(S.into(), S.into());
+        assert_eq!(figure(&plan, 0), Answer::at_once(low, high));
+        assert_eq!(importance(&plan, 1, 0), Answer::at_once(0, high - low));
+        let certain = Answer::at_once(S.into(), S.into());
         assert_eq!(importance(&plan, 0, 0), certain);
         let loops = Plan::new(1, &[(0, 0, values[0]), (0, 0, values[1])]);
         assert_eq!(figure(&loops, 0), certain);
-        assert_eq!(importance(&loops, 0, 0), at_once(0, 0));
+        assert_eq!(importance(&loops, 0, 0), Answer::at_once(0, 0));
     }
 }
 
@@ -180,13 +166,13 @@ fn every_length_by_difference() {
         let plan = alone(length);
         let (low, high) = (units(length.low), units(length.high));
         for value in [length.rating, length.low, length.high, 0, ONE] {
-            let (other, value) = (between(&[value as u32]), units(value));
-            let minus = at_once(low - value, high - value);
+            let (other, value) = (Plan::between(&[value as u32]), units(value));
+            let minus = Answer::at_once(low - value, high - value);
             assert_eq!(difference(&plan, &other, 0), minus);
-            let minus = at_once(value - high, value - low);
+            let minus = Answer::at_once(value - high, value - low);
             assert_eq!(difference(&other, &plan, 0), minus);
         }
-        let minus = at_once(low - units(other.high), high - units(other.low));
+        let minus = Answer::at_once(low - units(other.high), high - units(other.low));
         assert_eq!(difference(&plan, &alone(other), 0), minus);
     }
 }
@@ -195,49 +181,33 @@ fn every_length_by_difference() {
 #[test]
 fn every_length_in_a_sitting() {
     for length in lengths() {
-        let file = alone(&length).bytes();
-        let answer = answer_bytes(&at_once(units(length.low), units(length.high)));
+        let plan = alone(&length);
+        let answer = answer_bytes(&Answer::at_once(units(length.low), units(length.high)));
         let work = [sizes(0, 1, 0), answer.clone()].concat();
         let expected = Sat { answer, work };
-        assert_eq!(sat(&file, 0, &NOTHING), expected);
-        assert_eq!(sat(&file, MOST_STEPS, &expected.work), expected);
+        assert_eq!(sat(&plan, 0, &NOTHING), expected);
+        assert_eq!(sat(&plan, MOST_STEPS, &expected.work), expected);
     }
-}
-
-/// A plan of so many links in which all hangs on the one at this place, of a length: five nodes are joined each to each by links of
-/// S, the length leads to a sixth, the next link, of S, from there to a seventh; the others are loops of the same length.
-fn hanging_on(length: &Length, place: usize, count: usize) -> Plan {
-    let next = (place + 1) % count;
-    let mut links = vec![(0, 0, LENGTH + length.k); count];
-    let mut others = (0..count).filter(|other| ![place, next].contains(other));
-    for b in 1..5 {
-        for a in 0..b {
-            links[others.next().unwrap()] = (a, b, S);
-        }
-    }
-    links[place] = (0, 5, LENGTH + length.k);
-    links[next] = (5, 6, S);
-    Plan::new(7, &links)
 }
 
 /// In plans of 13 to 64 links, at each place: each call shows the length's own values, a sitting that carries on too.
 #[test]
 fn every_length_at_some_place() {
     let pair = |answer: Answer| (answer.low, answer.high);
-    let none = between(&[0]);
+    let none = Plan::between(&[0]);
     for length in lengths() {
         let (low, high) = (units(length.low), units(length.high));
         let count = 13 + length.k as usize % 52;
         for place in [length.k as usize % count, count - 1] {
-            let plan = hanging_on(&length, place, count);
+            let plan = Plan::hanging_on(length.k, place, count);
             assert_eq!(pair(figure(&plan, 20)), (low, high));
             let next = (place + 1) % count;
             assert_eq!(pair(importance(&plan, next, 20)), (low, high));
             assert_eq!(pair(difference(&plan, &none, 20)), (low, high));
             assert_eq!(pair(difference(&none, &plan, 20)), (-high, -low));
-            let first = sat(&plan.bytes(), 1, &NOTHING);
+            let first = sat(&plan, 1, &NOTHING);
             assert!(!sat_answer(&first).finished);
-            let rest = sat(&plan.bytes(), 20, &first.work);
+            let rest = sat(&plan, 20, &first.work);
             assert_eq!(pair(sat_answer(&rest)), (low, high));
         }
     }
@@ -252,12 +222,12 @@ fn every_length_with_another() {
             let values = [LENGTH + p.k, LENGTH + q.k];
             let low = ONE - above((ONE - p.low) * (ONE - q.low), ONE);
             let high = ONE - below((ONE - p.high) * (ONE - q.high), ONE);
-            let beside = at_once(units(low), units(high));
-            assert_eq!(figure(&between(&values), 0), beside);
+            let beside = Answer::at_once(units(low), units(high));
+            assert_eq!(figure(&Plan::between(&values), 0), beside);
             let low = below(p.low * q.low, ONE);
             let high = above(p.high * q.high, ONE);
             let path = Plan::new(3, &[(0, 1, values[0]), (1, 2, values[1])]);
-            assert_eq!(figure(&path, 0), at_once(units(low), units(high)));
+            assert_eq!(figure(&path, 0), Answer::at_once(units(low), units(high)));
         }
     }
 }
@@ -273,7 +243,7 @@ fn paths_and_stars_of_lengths() {
             (below(length.low * low, ONE), above(length.high * high, ONE))
         };
         let (low, high) = taken.iter().rev().fold((ONE, ONE), times);
-        let expected = at_once(units(low), units(high));
+        let expected = Answer::at_once(units(low), units(high));
         let path = |i: u8| [i, i + 1];
         let star = |i: u8| [0, i + 1];
         for ends in [path, star] {
@@ -292,23 +262,16 @@ fn paths_and_stars_of_lengths() {
 fn values_in_units_have_no_joint() {
     for length in lengths() {
         for value in [length.rating, length.low, length.high] {
-            let (plan, value) = (between(&[value as u32]), units(value));
-            assert_eq!(figure(&plan, 0), at_once(value, value));
-            let sat = sat(&plan.bytes(), 0, &NOTHING);
-            assert_eq!(sat_answer(&sat), at_once(value, value));
+            let (plan, value) = (Plan::between(&[value as u32]), units(value));
+            assert_eq!(figure(&plan, 0), Answer::at_once(value, value));
+            let sat = sat(&plan, 0, &NOTHING);
+            assert_eq!(sat_answer(&sat), Answer::at_once(value, value));
         }
     }
     for value in [0, 1, S / 2, S - 1, S] {
-        let exact = at_once(value.into(), value.into());
-        assert_eq!(figure(&between(&[value]), 0), exact);
+        let exact = Answer::at_once(value.into(), value.into());
+        assert_eq!(figure(&Plan::between(&[value]), 0), exact);
     }
-}
-
-/// A number of units that is no whole one, by the whole one below it.
-fn hold_between(exact: &Exact, floor: i64, answer: &Answer) {
-    assert_eq!(exact.compared(floor), Ordering::Greater, "{floor}");
-    assert_eq!(exact.compared(floor + 1), Ordering::Less, "{floor}");
-    assert!(answer.finished && answer.low <= floor && floor < answer.high);
 }
 
 fn two_ways_round() -> Plan {
@@ -341,13 +304,13 @@ fn exact_figures_that_are_known() {
     let triangle = [(0, 1, LENGTH + 1), (1, 2, LENGTH + 2), (0, 2, LENGTH + 3)];
     for (plan, floor) in [
         (Plan::new(3, &lines), 992_924_100),
-        (between(&[LENGTH + 10, LENGTH + 20]), 999_981_171),
+        (Plan::between(&[LENGTH + 10, LENGTH + 20]), 999_981_171),
         (Plan::new(3, &triangle), 999_998_621),
         (four.clone(), 999_998_253),
         (two_ways_round(), 999_494_936),
         (joined(16, 0, &path(16)), 998_501_086),
         (joined(17, 511, &path(17)), 85_882_727),
-        (between(&[LENGTH + 511; 3]), 997_122_567),
+        (Plan::between(&[LENGTH + 511; 3]), 997_122_567),
         (joined(12, 100, &ring), 952_351_643),
     ] {
         hold_between(&Exact::figure(&plan), floor, &figure(&plan, 20_000));

@@ -2,35 +2,19 @@
 
 use outside::calls::{limits_around, MOST_STEPS};
 use outside::claims::{
-    difference, figure, hold, hold_differences, hold_figure, hold_importances, hold_nested,
-    importance, is_narrow, sat, sat_answer, splits, Signs,
+    by_first_link, difference, figure, hold, hold_differences, hold_figure, hold_importances,
+    hold_nested, importance, is_narrow, sat, sat_answer, splits, to_the_end, Signs,
 };
-use outside::plans::{Plan, LENGTH};
+use outside::plans::{of_ten, Plan, LENGTH};
 use outside::random::Random;
-use outside::rule::{needed_by, Answer, Choice, Network};
-use outside::sittings::{Begun, Sitting, NOTHING, WORK};
+use outside::rule::{needed_by, Choice, Network};
+use outside::sittings::{Begun, NOTHING};
 use outside::states::{widest, widest_difference, widest_importance, Exact, MOST};
 
-/// How many of ten links are lengths: all in half of the plans, and some in the others.
-fn of_ten(random: &mut Random) -> usize {
-    match random.below(2) {
-        0 => 10,
-        _ => 3 + random.below(5),
-    }
-}
-
-/// Meshed plans and plans of all kinds, with lengths, of few enough splits.
+/// Of few enough splits.
 fn any_plan(random: &mut Random, most_links: usize, most_splits: u64) -> Plan {
     loop {
-        let nodes = 3 + random.below(10) as u8;
-        let count = 3 + random.below(most_links - 2);
-        let plan = match random.below(3) {
-            0 => Plan::random_of(random, nodes, count),
-            1 => Plan::meshed(random, 4 + nodes % 4, count),
-            _ => Plan::meshed(random, nodes, count),
-        };
-        let of_ten = of_ten(random);
-        let plan = plan.with_lengths(random, of_ten);
+        let plan = Plan::of_lengths(random, most_links);
         if splits(&plan) <= most_splits {
             return plan;
         }
@@ -57,8 +41,8 @@ fn the_calls_on_random_plans() {
                 let both = difference(a, b, limit);
                 assert!(is_narrow(&both, widest_difference(a, b)));
             }
-            let first = sat(&plan.bytes(), limit, &NOTHING);
-            sat(&plan.bytes(), random.up_to(needed), &first.work);
+            let first = sat(&plan, limit, &NOTHING);
+            sat(&plan, random.up_to(needed), &first.work);
         }
         before = plan;
     }
@@ -77,8 +61,8 @@ fn the_calls_on_plans_of_64_links() {
                 figure(&a, limit);
                 difference(&a, &b, limit);
                 importance(&a, random.below(64), limit);
-                let first = sat(&a.bytes(), limit, &NOTHING);
-                sat(&a.bytes(), 500, &first.work);
+                let first = sat(&a, limit, &NOTHING);
+                sat(&a, 500, &first.work);
             }
         }
     }
@@ -97,8 +81,8 @@ fn the_calls_on_complete_graphs() {
             assert!(is_narrow(&whole, widest(&a)));
             assert_eq!(difference(&a, &b, limit).steps, 2 * limit);
             assert!(importance(&a, 5, limit).finished);
-            let half = sat(&a.bytes(), limit / 2, &NOTHING);
-            let rest = sat(&a.bytes(), limit - limit / 2, &half.work);
+            let half = sat(&a, limit / 2, &NOTHING);
+            let rest = sat(&a, limit - limit / 2, &half.work);
             assert_eq!(sat_answer(&rest), whole);
         }
     }
@@ -132,24 +116,10 @@ fn figures_of_sixteen_lengths_against_exact_sums() {
     assert!(splits > 200, "too few splits: {splits}");
 }
 
-/// Small plans of all kinds, with lengths.
-fn small_plan(random: &mut Random, most_links: usize) -> Plan {
-    let of_ten = of_ten(random);
-    let plan = match random.below(2) {
-        0 => Plan::random(random, 8, most_links),
-        _ => {
-            let nodes = 4 + random.below(3) as u8;
-            let count = 6 + random.below(most_links - 5);
-            Plan::meshed(random, nodes, count)
-        }
-    };
-    plan.with_lengths(random, of_ten)
-}
-
 #[test]
 fn importances_against_exact_sums() {
     let mut random = Random::new(156);
-    let plans = (0..250).map(|_| small_plan(&mut random, 11));
+    let plans = (0..250).map(|_| Plan::small_of_lengths(&mut random, 11));
     let steps: u64 = plans.map(|plan| hold_importances(&plan)).sum();
     assert!(steps > 1_000, "too few steps: {steps}");
 }
@@ -160,8 +130,8 @@ fn differences_against_exact_sums() {
     let mut random = Random::new(157);
     let mut signs = Signs::default();
     for i in 0..400 {
-        let a = small_plan(&mut random, 10);
-        let mut b = small_plan(&mut random, 10);
+        let a = Plan::small_of_lengths(&mut random, 10);
+        let mut b = Plan::small_of_lengths(&mut random, 10);
         if i % 2 == 0 && !a.links.is_empty() {
             b = a.clone();
             let place = random.below(b.links.len());
@@ -188,25 +158,6 @@ fn differences_of_sixteen_lengths() {
     }
 }
 
-/// Sittings from this work to the end, of some steps each: their answers.
-fn to_the_end(random: &mut Random, plan: &[u8], saved: &[u8]) -> Vec<Answer> {
-    let mut now = sat(plan, 0, saved);
-    let mut answers = vec![sat_answer(&now)];
-    while !sat_answer(&now).finished {
-        now = sat(plan, 1 + random.of_any_size(40), &now.work);
-        answers.push(sat_answer(&now));
-    }
-    answers
-}
-
-/// Work of so many steps by the first link's rule.
-fn by_first_link(plan: &[u8], limit: u64) -> Vec<u8> {
-    let saved = &NOTHING;
-    let first = Sitting { plan, limit, saved };
-    let sat = first.outcome_by(Choice::FirstLink, 16, WORK);
-    sat.unwrap().work
-}
-
 /// Sittings from nothing end as one run does; sittings from the first link's work may end with another pair. Both enclose the exact
 /// figure all the way.
 #[test]
@@ -214,16 +165,16 @@ fn sittings_against_exact_sums() {
     let mut random = Random::new(159);
     let (mut cut, mut changed) = (0, 0);
     for _ in 0..250 {
-        let plan = small_plan(&mut random, 14);
-        let (file, exact) = (plan.bytes(), Exact::figure(&plan));
-        let afresh = to_the_end(&mut random, &file, &NOTHING);
+        let plan = Plan::small_of_lengths(&mut random, 14);
+        let exact = Exact::figure(&plan);
+        let afresh = to_the_end(&mut random, &plan, &NOTHING);
         hold(&exact, &afresh, widest(&plan));
         let whole = *afresh.last().unwrap();
         assert_eq!(whole, figure(&plan, MOST_STEPS));
         let first_link = needed_by(Choice::FirstLink, Network::from(&plan));
         for steps in [1, first_link / 2, first_link.saturating_sub(1)] {
-            let old = by_first_link(&file, steps);
-            let carried = to_the_end(&mut random, &file, &old);
+            let old = by_first_link(&plan, steps);
+            let carried = to_the_end(&mut random, &plan, &old);
             hold(&exact, &carried, widest(&plan));
             let end = carried.last().unwrap();
             changed += usize::from((end.low, end.high) != (whole.low, whole.high));
@@ -240,12 +191,11 @@ fn sittings_of_larger_plans() {
     let mut cut = 0;
     for _ in 0..60 {
         let plan = any_plan(&mut random, 30, 2_000);
-        let file = plan.bytes();
-        let answers = to_the_end(&mut random, &file, &NOTHING);
+        let answers = to_the_end(&mut random, &plan, &NOTHING);
         hold_nested(&answers);
         assert_eq!(*answers.last().unwrap(), figure(&plan, MOST_STEPS));
-        let old = by_first_link(&file, 1 + random.up_to(splits(&plan)));
-        to_the_end(&mut random, &file, &old);
+        let old = by_first_link(&plan, 1 + random.up_to(splits(&plan)));
+        to_the_end(&mut random, &plan, &old);
         cut += answers.len();
     }
     assert!(cut > 500, "{cut}");
@@ -261,17 +211,17 @@ fn work_from_before_the_joints() {
         let before = plan.clone().without_joints();
         let needed = splits(&plan);
         let steps = random.up_to(needed);
-        let [old, new] = [&before, &plan].map(|plan| sat(&plan.bytes(), steps, &NOTHING));
+        let [old, new] = [&before, &plan].map(|plan| sat(plan, steps, &NOTHING));
         assert_eq!(old.work[..4], new.work[..4]);
         if sat_answer(&old).finished {
-            assert_eq!(sat(&plan.bytes(), 9, &old.work), old);
+            assert_eq!(sat(&plan, 9, &old.work), old);
             continue;
         }
         let [open, open_now] = [&old, &new].map(|sat| Begun::of(&sat.work));
         assert_eq!(open.places, open_now.places);
         other_pairs += usize::from(open.pairs != open_now.pairs);
         for limit in [0, 1, needed] {
-            sat(&plan.bytes(), limit, &old.work);
+            sat(&plan, limit, &old.work);
         }
     }
     assert!(other_pairs > 30, "{other_pairs}");

@@ -1,10 +1,11 @@
-//! Every row of the table of causes, alone and in pairs, at each of the five calls: of the independent version, and of the
-//! library.
+//! Every row of the table of causes, alone and in pairs, at each of the five calls, with lengths in the plans and without, and under
+//! a buyer's table and the built-in one: of the independent version, and of the library.
 
 use outside::arithmetic::S;
 use outside::calls::{held, Call};
 use outside::plans::{Plan, LENGTH};
 use outside::sittings::{held_into, sizes, Begun, Sitting, RUNNING};
+use outside::tables;
 
 /// Everything that can be wrong with a file: its plan, then its length, then all but its first bytes lost.
 #[derive(Clone)]
@@ -51,6 +52,34 @@ impl Work {
     }
 }
 
+/// Everything that can be wrong with a table: its values, then its length.
+#[derive(Clone)]
+struct Ratings {
+    values: Vec<u32>,
+    length: Option<usize>,
+}
+
+impl Ratings {
+    fn bytes(&self) -> Vec<u8> {
+        let mut bytes = tables::bytes(&self.values);
+        bytes.resize(self.length.unwrap_or(bytes.len()), 0);
+        bytes
+    }
+
+    /// Makes the value at this place another. A table of no values is made a buyer's first.
+    fn changed(&mut self, at: usize, by: impl Fn(&[u32]) -> u32) {
+        if self.values.is_empty() {
+            self.values = buyers();
+        }
+        self.values[at] = by(&self.values);
+    }
+}
+
+/// The values of a right table: some equal, the last of them not 0.
+fn buyers() -> Vec<u32> {
+    (0..512).map(|k| S - k / 3 * 1_000_001).collect()
+}
+
 #[derive(Clone)]
 struct Asked {
     limit: u64,
@@ -60,11 +89,28 @@ struct Asked {
     b: File,
     work_room: usize,
     saved: Work,
+    table: Ratings,
 }
 
-fn accepted() -> Asked {
+/// Calls of which nothing is wrong: with a length in the plan or none, under no table and under a buyer's.
+fn all_accepted() -> Vec<Asked> {
+    let mut all = Vec::new();
+    for (value, values) in [
+        (LENGTH + 511, vec![]),
+        (LENGTH + 511, buyers()),
+        (S / 2, vec![]),
+        (S / 2, buyers()),
+    ] {
+        let mut one = accepted(value);
+        one.table.values = values;
+        all.push(one);
+    }
+    all
+}
+
+fn accepted(value: u32) -> Asked {
     let file = File {
-        plan: Plan::new(3, &[(0, 1, S), (1, 2, LENGTH + 511), (2, 0, 0)]),
+        plan: Plan::new(3, &[(0, 1, S), (1, 2, value), (2, 0, 0)]),
         longer: 0,
         shorter: 0,
         kept: usize::MAX,
@@ -76,6 +122,10 @@ fn accepted() -> Asked {
         a: file.clone(),
         b: file,
         work_room: 776,
+        table: Ratings {
+            values: Vec::new(),
+            length: None,
+        },
         saved: Work {
             count: None,
             state: 0,
@@ -134,6 +184,29 @@ fn of_the_limit_and_the_buffer() -> Vec<Fault<Asked>> {
     }
     for room in [0, 1, 15] {
         faults.push(fault(9, move |q: &mut Asked| q.room = room));
+    }
+    faults
+}
+
+/// Row 12 and then 13.
+fn of_the_table() -> Vec<Fault<Asked>> {
+    let mut faults = Vec::new();
+    for length in [1, 4, 1_024, 2_044, 2_047, 2_049, 2_052, 4_096, 1 << 16] {
+        faults.push(fault(12, move |q: &mut Asked| {
+            q.table.length = Some(length)
+        }));
+    }
+    for first in [0, S - 1, S + 1, u32::MAX, S.swap_bytes()] {
+        faults.push(fault(13, move |q: &mut Asked| {
+            q.table.changed(0, |_| first)
+        }));
+    }
+    for at in [1, 2, 255, 256, 510, 511] {
+        for more in [1, 1 << 31] {
+            faults.push(fault(13, move |q: &mut Asked| {
+                q.table.changed(at, |values| values[at - 1] + more)
+            }));
+        }
     }
     faults
 }
@@ -200,9 +273,19 @@ fn of_the_saved_work() -> Vec<Fault<Asked>> {
 
 /// Each fault alone, and each two with different numbers: the one that is tested first decides.
 fn alone_and_in_pairs(faults: &[Fault<Asked>], returned: impl Fn(&Asked) -> Result<(), u64>) {
-    assert_eq!(returned(&accepted()), Ok(()));
+    for accepted in all_accepted() {
+        assert_eq!(returned(&accepted), Ok(()));
+        hold_faults(&accepted, faults, &returned);
+    }
+}
+
+fn hold_faults(
+    accepted: &Asked,
+    faults: &[Fault<Asked>],
+    returned: impl Fn(&Asked) -> Result<(), u64>,
+) {
     for (i, (number, spoils)) in faults.iter().enumerate() {
-        let mut one = accepted();
+        let mut one = accepted.clone();
         spoils(&mut one);
         assert_eq!(returned(&one), Err(*number), "fault {i}");
         for (j, (later, spoils_too)) in faults.iter().enumerate().skip(i + 1) {
@@ -215,57 +298,55 @@ fn alone_and_in_pairs(faults: &[Fault<Asked>], returned: impl Fn(&Asked) -> Resu
     }
 }
 
-fn returned(call: Call, room: usize) -> Result<(), u64> {
-    held(&call, room).map(|_| ())
+/// With the buffer and the table of what is asked.
+fn returned(call: Call, q: &Asked) -> Result<(), u64> {
+    let table = &q.table.bytes();
+    held(call.under(table), q.room).map(|_| ())
 }
 
 #[test]
 fn of_check() {
     alone_and_in_pairs(&of_plan_a(), |q| {
         let plan = &q.a.bytes();
-        returned(Call::Check { plan }, q.room)
+        returned(Call::Check { plan }, q)
     });
 }
 
 #[test]
 fn of_figure() {
     let mut faults = of_the_limit_and_the_buffer();
+    faults.extend(of_the_table());
     faults.extend(of_plan_a());
     alone_and_in_pairs(&faults, |q| {
         let plan = &q.a.bytes();
         let limit = q.limit;
-        returned(Call::Figure { plan, limit }, q.room)
+        returned(Call::Figure { plan, limit }, q)
     });
 }
 
 #[test]
 fn of_importance() {
     let mut faults = of_the_limit_and_the_buffer();
+    faults.extend(of_the_table());
     faults.extend(of_plan_a());
     faults.extend(of_the_place());
     alone_and_in_pairs(&faults, |q| {
         let plan = &q.a.bytes();
         let (place, limit) = (q.place, q.limit);
-        returned(Call::Importance { plan, place, limit }, q.room)
+        returned(Call::Importance { plan, place, limit }, q)
     });
 }
 
 #[test]
 fn of_difference() {
     let mut faults = of_the_limit_and_the_buffer();
+    faults.extend(of_the_table());
     faults.extend(of_plan_a());
     faults.extend(of_plan_b());
     alone_and_in_pairs(&faults, |q| {
-        let [a, b] = [&q.a, &q.b].map(File::bytes);
+        let (a, b) = (&q.a.bytes(), &q.b.bytes());
         let limit = q.limit;
-        returned(
-            Call::Difference {
-                a: &a,
-                b: &b,
-                limit,
-            },
-            q.room,
-        )
+        returned(Call::Difference { a, b, limit }, q)
     });
 }
 
@@ -273,20 +354,23 @@ fn of_difference() {
 fn of_sitting() {
     let mut faults = of_the_limit_and_the_buffer();
     faults.extend(of_the_work_buffer());
+    faults.extend(of_the_table());
     faults.extend(of_plan_a());
     faults.extend(of_the_saved_work());
     alone_and_in_pairs(&faults, |q| {
         let (plan, saved) = (&q.a.bytes(), &q.saved.bytes());
         let limit = q.limit;
-        let sitting = Sitting { plan, limit, saved };
-        held_into(&sitting, q.room, q.work_room).map(|_| ())
+        let (sitting, table) = (Sitting { plan, limit, saved }, &q.table.bytes());
+        held_into(sitting.under(table), q.room, q.work_room).map(|_| ())
     });
 }
 
 /// Plans that the other calls refuse by rows 7, 8 and 9 are accepted by a check.
 #[test]
 fn check_has_rows_1_to_6_alone() {
-    for plan in [accepted().a.plan, Plan::new(1, &[]), Plan::new(32, &[])] {
+    let returned = |call: Call, room| held(&call, room).map(|_| ());
+    let plan = accepted(LENGTH + 511).a.plan;
+    for plan in [plan, Plan::new(1, &[]), Plan::new(32, &[])] {
         let place = plan.links.len() as u64;
         let plan = &plan.bytes();
         let limit = 1_000_001;

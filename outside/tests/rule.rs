@@ -230,7 +230,7 @@ fn the_bytes_of_a_plan() {
     ];
     for (k, values) in lengths {
         let link = Plan::new(2, &[(0, 1, LENGTH + k)]);
-        assert_eq!(link.links[0].values(), values);
+        assert_eq!(link.table.values(&link.links[0]), values);
         let answer = worked(&link, 0);
         assert_eq!([answer.low, answer.high], values.map(i64::from));
     }

@@ -1,8 +1,10 @@
-//! The sample plans: each text and its bytes, and the script that makes the one of the other.
+//! The sample plans and the table: each text and its bytes, and the script that makes the one of the other.
 
+use outside::arithmetic::{product, Side, S};
 use outside::calls::{held, read, Call};
 use outside::plans::{Link, Plan, LENGTH};
-use outside::repository::{bytes, path, plan, plans_with};
+use outside::repository::{bytes, path, plan, plans_with, table};
+use outside::tables::{self, Table};
 use std::fs;
 use std::path::{Path, PathBuf};
 use std::process::{Command, Output};
@@ -33,6 +35,25 @@ fn meant(text: &str) -> Plan {
     plan
 }
 
+/// The values of the table that a text means.
+fn meant_values(text: &str) -> Vec<u32> {
+    let lines = text.lines().map(|line| line.split('#').next().unwrap());
+    let words = lines.flat_map(str::split_whitespace);
+    words
+        .filter(|word| *word != "ratings")
+        .map(number)
+        .collect()
+}
+
+/// The texts of plans and of tables, by the bytes that stand beside them.
+fn names() -> [Vec<String>; 2] {
+    ["plan", "table"].map(plans_with)
+}
+
+fn text_of(name: &str) -> String {
+    String::from_utf8(bytes(&format!("plans/{name}.txt"))).unwrap()
+}
+
 /// An empty folder of this run.
 fn folder(name: &str) -> PathBuf {
     let folder = Path::new(env!("CARGO_TARGET_TMPDIR")).join(name);
@@ -48,20 +69,47 @@ fn make(folder: &Path) -> Output {
 
 #[test]
 fn each_text_has_its_bytes() {
-    let names = plans_with("txt");
-    assert_eq!(names, plans_with("plan"));
-    assert!(names.len() >= 8, "too few: {names:?}");
-    for name in names {
-        let text = String::from_utf8(bytes(&format!("plans/{name}.txt"))).unwrap();
-        assert_eq!(plan(&name), meant(&text).bytes(), "{name}");
+    let [plans, tables] = names();
+    let mut all = [&plans[..], &tables].concat();
+    all.sort();
+    assert_eq!(all, plans_with("txt"));
+    assert!(plans.len() >= 8 && !tables.is_empty(), "too few: {all:?}");
+    for name in plans {
+        assert_eq!(plan(&name), meant(&text_of(&name)).bytes(), "{name}");
     }
+    for name in tables {
+        let values = meant_values(&text_of(&name));
+        assert_eq!(table(&name), tables::bytes(&values), "{name}");
+    }
+}
+
+/// As its text says: each hundred metres leaves 0.9999, and from 6,400 metres on each drum begun 0.9992.
+#[test]
+fn the_armoured_cable() {
+    let mut values = vec![S];
+    for k in 1..512 {
+        let before = *values.last().unwrap();
+        let left = match k {
+            1..=63 => 999_900_000,
+            _ if k % 8 == 0 => 999_200_000,
+            _ => S,
+        };
+        values.push(product(Side::Low, before, left));
+    }
+    assert_eq!(table("armoured"), tables::bytes(&values));
+    assert_eq!(Table::read(&table("armoured")), Ok(Table::of(&values)));
 }
 
 #[test]
 fn each_is_accepted() {
-    for name in plans_with("plan") {
+    let [plans, tables] = names();
+    for name in plans {
         let file = &plan(&name);
         assert_eq!(held(&Call::Check { plan: file }, 0), Ok(None), "{name}");
+    }
+    for name in tables {
+        let (plan, table, limit) = (&plan("two-crossings"), &table(&name), 5);
+        assert!(held(Call::Figure { plan, limit }.under(table), 16).is_ok());
     }
 }
 
@@ -92,10 +140,14 @@ fn the_script_makes_them() {
     }
     let output = make(&folder);
     assert!(output.status.success() && output.stderr.is_empty());
-    for name in plans_with("txt") {
-        let made = fs::read(folder.join(format!("{name}.plan"))).unwrap();
-        assert_eq!(made, plan(&name), "{name}");
+    for (names, ending) in names().into_iter().zip(["plan", "table"]) {
+        for file in names.iter().map(|name| format!("{name}.{ending}")) {
+            let made = fs::read(folder.join(&file)).unwrap();
+            assert_eq!(made, bytes(&format!("plans/{file}")), "{file}");
+        }
     }
+    let made = fs::read_dir(&folder).unwrap().count();
+    assert_eq!(made, 2 * plans_with("txt").len());
 }
 
 /// The largest numbers of each kind, spaces, and a last line that does not end.
@@ -111,6 +163,48 @@ fn the_script_takes_the_most_that_passes() {
     assert_eq!(made, meant(&text).bytes());
     assert_eq!(held(&Call::Check { plan: &made }, 0), Ok(None));
 }
+
+/// All values on one line and each on its own, the first alone above 0, and a last line that does not end.
+#[test]
+fn the_script_takes_a_table_in_any_lines() {
+    let folder = folder("lines");
+    let zeros = " 0".repeat(511);
+    let whole = format!("# nothing\n\t ratings  1000000000{zeros} # of them");
+    let apart = format!("ratings 1000000000\n{}", "ratings 0\n\n".repeat(511));
+    let equal = "ratings 1000000000 1000000000\n".repeat(256);
+    for (name, text) in [("whole", &whole), ("apart", &apart), ("equal", &equal)] {
+        fs::write(folder.join(format!("{name}.txt")), text).unwrap();
+    }
+    assert!(make(&folder).status.success());
+    let made = |name| fs::read(folder.join(format!("{name}.table"))).unwrap();
+    let [first, rest] = [vec![S], vec![0; 511]];
+    let values = [first, rest].concat();
+    assert_eq!(
+        [made("whole"), made("apart")],
+        [(); 2].map(|()| tables::bytes(&values))
+    );
+    assert_eq!(made("equal"), tables::bytes(&[S; 512]));
+}
+
+/// Tables that are wrong in their second line, and a part of what is said of each.
+const WRONG_RATINGS: [(&str, &str); 13] = [
+    ("ratings", "expected: ratings"),
+    ("ratings # 5", "expected: ratings"),
+    ("ratings 1000000001", "value 1 is not from 0"),
+    ("ratings x", "value 1 is not a number"),
+    ("ratings 0.95", "value 1 is not a number"),
+    ("ratings -5", "value 1 is not a number"),
+    ("ratings 07", "value 1 is not a number"),
+    ("ratings 18446744073709551617", "value 1 is not a number"),
+    (
+        "ratings 7 7 8 9",
+        "value 3 is above the one before: 8 after 7",
+    ),
+    ("ratings 0 1", "value 2 is above the one before: 1 after 0"),
+    ("nodes 2", "a line of a plan in the text of a table"),
+    ("link 0 1 5", "a line of a plan in the text of a table"),
+    ("rating 5", "neither nodes, link nor ratings: 'rating'"),
+];
 
 /// Links that are wrong in a plan of two nodes, and a part of what is said of each.
 const WRONG_LINKS: [(&str, &str); 18] = [
@@ -146,7 +240,33 @@ fn wrong_texts() -> Vec<(String, usize, &'static str)> {
         ("nodes 2 2\n".into(), 1, "expected: nodes N"),
         ("nodes 2\nlinks 0 1 5\n".into(), 2, "links"),
         (many, 66, "64 is the most"),
+        (
+            "nodes 2\nratings 1000000000\n".into(),
+            2,
+            "a line of a table in the text of a plan",
+        ),
+        (
+            "\nratings 999999999\n".into(),
+            2,
+            "the first value is not 1000000000: 999999999",
+        ),
+        (
+            "ratings 0 0\n".into(),
+            1,
+            "the first value is not 1000000000: 0",
+        ),
+        ("ratings 1000000000\n".into(), 1, "values missing: 1 of 512"),
     ];
+    for (count, said) in [
+        (255, "values missing: 511 of 512"),
+        (256, "a value too many"),
+    ] {
+        let text = format!("ratings 1000000000\n{}", "ratings 5 5\n".repeat(count));
+        texts.push((text, 1 + count, said));
+    }
+    for (line, said) in WRONG_RATINGS {
+        texts.push((format!("ratings 1000000000\n{line}\n"), 2, said));
+    }
     for count in ["0", "33", "-1", "x", "02", "2.0", "99999999999999999999"] {
         texts.push((format!("nodes {count}\n"), 1, "nodes is not"));
     }
@@ -171,7 +291,7 @@ fn the_script_refuses_wrong_texts() {
                 && message.lines().count() == 1,
             "{text}: {message}"
         );
-        assert!(!folder.join("wrong.plan").exists(), "{text}");
+        assert_eq!(fs::read_dir(&folder).unwrap().count(), 1, "{text}");
     }
 }
 

@@ -99,10 +99,8 @@ fn with_values(random: &mut Random, plan: Plan) -> Plan {
         value: value(random),
         ..*link
     };
-    Plan {
-        nodes: plan.nodes,
-        links: plan.links.iter().map(link).collect(),
-    }
+    let links = plan.links.iter().map(link).collect();
+    Plan { links, ..plan }
 }
 
 /// Plans of many links for their nodes, all of them with a split.

@@ -7,6 +7,7 @@ use outside::plans::{Link, Plan};
 use outside::random::Random;
 use outside::repository::{plan, plans_with};
 use outside::rule::{needed, Answer, Network};
+use outside::tables::Table;
 use outside::versions::{in_c, library, straightforward, Version};
 use std::collections::HashSet;
 
@@ -102,7 +103,12 @@ fn two_parts(random: &mut Random) -> Plan {
         links.push(Link { ends, value });
     }
     random.shuffle(&mut links);
-    Plan { nodes: 10, links }
+    let table = Table::BuiltIn;
+    Plan {
+        nodes: 10,
+        links,
+        table,
+    }
 }
 
 #[test]
