@@ -31,12 +31,12 @@ pub fn run<'r>(
     ensures { λ r. ⌜ Worked (resumed (tree (networkOf (assembled alive nodes (now (at .entry)) (now (a .entry)) (now (b .entry)) (now (low .entry)) (now (high .entry))))) (opensIn (now (row .entry)) k left)) limit (now (row .entry)) k r (now (row .exit)) ⌝ }
 {
     match steps::step(alive, nodes, at, a, b, low, high) {
-        Next::OneNode => sittings::whole(figures::settled(1_000_000_000)),
+        Next::OneNode => rows::whole(figures::settled(1_000_000_000)),
         Next::End(v, i) => {
             let e = assembly::link_at(a, b, low, high, i);
             if search::at_most_one(bits::without(nodes as u64, v)) {
                 let one = figures::settled(1_000_000_000);
-                return sittings::whole(figures::times(e.low, e.high, one));
+                return rows::whole(figures::times(e.low, e.high, one));
             }
             let r = assembly::assembled(alive, nodes, at, a, b, low, high).end(v, i);
             let f = run(
@@ -85,17 +85,17 @@ pub fn run<'r>(
         }
         Next::Split(c) => {
             let i = steps::split_on(alive, c, row, k, left);
-            if sittings::stopped(left, limit) {
-                return sittings::whole(figures::unfinished());
+            if rows::stopped(left, limit) {
+                return rows::whole(figures::unfinished());
             }
             let e = assembly::link_at(a, b, low, high, i);
             let place = steps::place(alive, i);
-            let own = sittings::own_steps(left);
+            let own = rows::own_steps(left);
             let limited = limit - (own as u64);
-            let inner = sittings::behind(left);
-            let known = sittings::is_known(row, k, left);
+            let inner = rows::behind(left);
+            let known = rows::is_known(row, k, left);
             let sound = if known {
-                sittings::known_at(row, k)
+                rows::known_at(row, k)
             } else {
                 let s = assembly::assembled(alive, nodes, at, a, b, low, high)
                     .contracted(i)
@@ -119,8 +119,8 @@ pub fn run<'r>(
             parts::take_out(&mut rest, e.a, i);
             parts::take_out(&mut rest, e.b, i);
             if 1 < pieces::count(nodes as u64, others, &rest, a, b) {
-                let none = sittings::whole(figures::settled(0));
-                return sittings::closed(row, k, place, e, own, sound, none);
+                let none = rows::whole(figures::settled(0));
+                return rows::closed(row, k, place, e, own, sound, none);
             }
             let remains = limited - (sound.figure.steps as u64);
             let broken = run(
@@ -134,9 +134,9 @@ pub fn run<'r>(
                 remains,
                 row,
                 k + 1,
-                sittings::of_broken(known, inner),
+                rows::of_broken(known, inner),
             );
-            sittings::closed(row, k, place, e, own, sound, broken)
+            rows::closed(row, k, place, e, own, sound, broken)
         }
     }
 }

@@ -17,7 +17,7 @@ pub fn carry(net: Network, limit: u64, row: &mut [u32; 192], left: usize) -> Car
 {
     let n = steps::without_loops(net);
     if 1 < steps::pieces(n) {
-        return sittings::whole(figures::settled(0));
+        return rows::whole(figures::settled(0));
     }
     let r = n.parallel();
     engine::run(

@@ -68,7 +68,7 @@ fn follow<'r>(
             if row[3 * k] != steps::place(alive, i) {
                 return false;
             }
-            if sittings::is_known(row, k, left) {
+            if rows::is_known(row, k, left) {
                 let d = assembly::assembled(alive, nodes, at, a, b, low, high).deleted(i);
                 if 1 < steps::pieces(d) {
                     return left == 1;

@@ -33,7 +33,7 @@ use Rattle.network.proofs.Network.end.Reads as end-reads
 use Rattle.network.proofs.Network.parallel.Reads as parallel-reads
 use Rattle.network.proofs.Network.series.Reads as series-reads
 use Rattle.assembly.proofs.assembled.Reads as assembled-reads
-use Rattle.sittings.proofs.is_known.Reads as is-known-reads
+use Rattle.rows.proofs.is_known.Reads as is-known-reads
 use Rattle.steps.proofs.pieces.Reads as pieces-reads
 use Rattle.steps.proofs.place.Reads as place-reads
 use Rattle.steps.proofs.split_on.Reads as split-on-reads

@@ -1,7 +1,7 @@
 use native.Mathlib.Numerals.{add-one, add-two}
 use borrow.Author.Needs.{needs}
-use Rattle.sittings.proofs.put_open.Statement.{statement}
-use Rattle.sittings.proofs.put_open.Tie as tie
+use Rattle.rows.proofs.put_open.Statement.{statement}
+use Rattle.rows.proofs.put_open.Tie as tie
 
 mul-row : tie.Need-mul-row
 mul-row c = search needs

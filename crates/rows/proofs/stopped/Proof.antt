@@ -2,8 +2,8 @@ use mathlib.Core.Path.{sym, ap}
 use mathlib.Core.Bool.{_&&_}
 use lib.Dec.{eqb}
 use borrow.Author.Tests.{eq-eqb, ne-eqb}
-use Rattle.sittings.proofs.stopped.Statement.{statement}
-use Rattle.sittings.proofs.stopped.Tie as tie
+use Rattle.rows.proofs.stopped.Statement.{statement}
+use Rattle.rows.proofs.stopped.Tie as tie
 
 returns : tie.Need-returns
 returns c = sym (ap (λ t. t && eqb (c .before .args .limit) 0) (eq-eqb (c .before .args .left) 0 (c .if1 .taken)))

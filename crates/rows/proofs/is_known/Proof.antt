@@ -5,8 +5,8 @@ use lib.Dec.{leb}
 use lib.ListN.{getD}
 use borrow.Author.Needs.{needs}
 use borrow.Author.Tests.{eq-eqb, ne-eqb}
-use Rattle.sittings.proofs.is_known.Statement.{statement}
-use Rattle.sittings.proofs.is_known.Tie as tie
+use Rattle.rows.proofs.is_known.Statement.{statement}
+use Rattle.rows.proofs.is_known.Tie as tie
 
 mul-result : tie.Need-mul-result
 mul-result c = search needs

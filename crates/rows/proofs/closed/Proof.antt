@@ -1,10 +1,10 @@
 use mathlib.Core.Path.{sym, _∙_}
 use native.Mathlib.Numerals.{add-one}
 use Rattle.sittings.proofs.Own.{own-running, own-known, own-done}
 use borrow.Author.Needs.{needs}
 use borrow.Author.Tests.{not-true, not-false}
-use Rattle.sittings.proofs.closed.Statement.{statement}
-use Rattle.sittings.proofs.closed.Tie as tie
+use Rattle.rows.proofs.closed.Statement.{statement}
+use Rattle.rows.proofs.closed.Tie as tie
 
 mixed-requires : tie.Need-mixed-requires
 mixed-requires c κs = search needs
