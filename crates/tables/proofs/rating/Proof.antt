@@ -1,12 +1,11 @@
 use Prim.Native.Nat.{ℕ}
-use mathlib.Core.Path.{_≡_, refl, sym, ap, _∙_}
-use mathlib.Core.List.{List, []}
+use mathlib.Core.Path.{_≡_, sym, ap, _∙_}
+use mathlib.Core.List.{List}
 use mathlib.Core.Logic.{inl, inr}
-use native.Mathlib.Omega.{arith}
 use lib.ListN.{length}
 use borrow.Author.Needs.{needs}
 use Rattle.ratings.specs.Ratings.{T}
-use Rattle.tables.specs.Tables.{valueIn, rating, BuyersTable, AcceptedTable}
+use Rattle.tables.specs.Tables.{rating, BuyersTable, AcceptedTable}
 use Rattle.tables.proofs.Theorems.{no-bytes, buyers-rating}
 use Rattle.tables.proofs.rating.Statement.{statement}
 use Rattle.tables.proofs.rating.Tie as tie
