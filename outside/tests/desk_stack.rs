@@ -147,7 +147,7 @@ fn fifty_five_open_splits_carried_on() {
 
 const THREADS: usize = 8;
 
-/// Plans, and a table for each: two have none.
+/// Plans, and a table for each: three have none.
 fn plans_and_tables() -> (Vec<Vec<u8>>, Vec<Vec<u8>>) {
     let mut random = Random::new(71);
     let mut files = vec![plan("mesh"), plan("two-crossings"), Plan::deepest().bytes()];

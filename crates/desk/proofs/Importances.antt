@@ -94,8 +94,8 @@ module _ (plan table : List ℕ) (place limit : ℕ) (b : List ℕ) where
     fine : AcceptedTable table
     fine = importance-accepted .0 zero .2
 
-    most : AtMostS (rating table)
-    most = rating-range table fine
+    chances : AtMostS (rating table)
+    chances = rating-range table fine
 
     valid : Valid g
     valid = valid-of plan table fine (importance-accepted .0 zero .3)
@@ -114,7 +114,7 @@ module _ (plan table : List ℕ) (place limit : ℕ) (b : List ℕ) where
     -- demand 2: low × S^(m−1+2L) ≤ S × (sound − broken) ≤ high × S^(m−1+2L)
     pub importance-encloses : (lowIn after * S ^ (fewer + 2 * L) ≤ S * exactly) × (S * exactly ≤ highIn after * S ^ (fewer + 2 * L))
     importance-encloses =
-        rw (importance-numbers .low, importance-numbers .high, ← others-total plan place (rating table) most (importance-accepted .0 zero .4)) (rule.importance-enclosure g valid place present limit (plan-enclosed plan (rating table) most))
+        rw (importance-numbers .low, importance-numbers .high, ← others-total plan place (rating table) chances (importance-accepted .0 zero .4)) (rule.importance-enclosure g valid place present limit (plan-enclosed plan (rating table) chances))
 
     -- from 0 to S, low no higher than high
     pub importance-range : (lowIn after ≤ highIn after) × (highIn after ≤ S)
@@ -138,7 +138,7 @@ module _ (plan table : List ℕ) (place limit : ℕ) (b : List ℕ) where
     pub importance-width : finishedIn after ≡ 1
         → highIn after ≤ lowIn after + ((2 * fewer + 4 * kept + 4 * L) + (2 * fewer + 4 * sizeN plan + 4 * L))
     importance-width done =
-        let w = rule.importance-width g valid place present limit (plan-enclosed plan (rating table) most) (mark-true (f .finished) (importance-numbers .finished) done) in
+        let w = rule.importance-width g valid place present limit (plan-enclosed plan (rating table) chances) (mark-true (f .finished) (importance-numbers .finished) done) in
         let ends = plan-ends (rating table) plan place (importance-accepted .0 zero .4) in
         let count : soundCount g place ≡ kept = rw (ends .0, ends .1, plan-nodes (rating table) plan) in
         omega (arith, importance-numbers, plan-links (rating table) plan, plan-nodes (rating table) plan, others-units plan place)

@@ -31,7 +31,7 @@ within i (suc k) v h l = go (ℕ-discrete v i) (within (suc i) k v)
 
 module _ (rating : ℕ → ℕ) (b : List ℕ) where
   pub plan-valid : AtMostS rating → verdict b ≡ Accepted → Valid (planOf rating b)
-  plan-valid most h = record { ascending = ascending-from 0 (sizeN b); proper = links-proper rating most b (from 0 (sizeN b)) (λ v l. within 0 (sizeN b) v (omega arith) (omega arith)) h }
+  plan-valid chances h = record { ascending = ascending-from 0 (sizeN b); proper = links-proper rating chances b (from 0 (sizeN b)) (λ v l. within 0 (sizeN b) v (omega arith) (omega arith)) h }
 
   pub plan-links : length (planOf rating b .links) ≡ sizeM b
   plan-links = length-map (from 0 (sizeM b)) (linkIn rating b) ∙ length-from 0 (sizeM b)

@@ -43,10 +43,10 @@ module _ {A : Type 0} (f : ℕ → A) where
   each-member P i (suc k) h x m =
       ⊎-elim (λ p. subst P (sym p) (h i (le-refl i) (omega arith))) (each-member P (suc i) k (λ j l n. h j (omega arith) (omega arith)) x) (List·Memᴰ·cases-cons m)
 
-module _ (rating : ℕ → ℕ) (most : AtMostS rating) (b : List ℕ) where
+module _ (rating : ℕ → ℕ) (chances : AtMostS rating) (b : List ℕ) where
   -- a link of an accepted plan joins nodes of the plan, and its values are chances in order
   pub links-proper : (vs : List ℕ) → ((v : ℕ) → v < sizeN b → List·Memᴰ v vs) → verdict b ≡ Accepted → (e : Link) → List·Memᴰ e (map (linkIn rating b) (from 0 (sizeM b))) → Proper vs e
   unfolding linkIn
   links-proper vs all accepted = each-member (linkIn rating b) (Proper vs) 0 (sizeM b) (λ j l h.
       let w = accepted-means b .0 accepted .each j (omega arith) in
-      record { a-node = all (firstEnd b j) (w .first); b-node = all (secondEnd b j) (w .second); range = λ d. rw value-linked (value-range rating most d (fileValue b j)); order = value-order rating (fileValue b j) })
+      record { a-node = all (firstEnd b j) (w .first); b-node = all (secondEnd b j) (w .second); range = λ d. rw value-linked (value-range rating chances d (fileValue b j)); order = value-order rating (fileValue b j) })

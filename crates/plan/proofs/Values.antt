@@ -53,7 +53,7 @@ by-rated P units length none w = go (leb w S) (leb 2147483648 w) (leb (w - 21474
 -- it is a chance, low no higher than high
 module _ (rating : ℕ → ℕ) where
   pub value-range : AtMostS rating → (d : Direction) (w : ℕ) → valueOf rating d (rated w) ≤ S
-  value-range most d = by-rated (λ r. valueOf rating d r ≤ S) (λ v h. h) (λ k h. joints-range d (rating k) (most k h)) zero-le
+  value-range chances d = by-rated (λ r. valueOf rating d r ≤ S) (λ v h. h) (λ k h. joints-range d (rating k) (chances k h)) zero-le
 
   pub value-order : (w : ℕ) → valueOf rating Down (rated w) ≤ valueOf rating Up (rated w)
   value-order = by-rated (λ r. valueOf rating Down r ≤ valueOf rating Up r) (λ v h. le-refl v) (λ k h. joints-order (rating k)) (le-refl 0)

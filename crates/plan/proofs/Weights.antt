@@ -35,14 +35,14 @@ Fits rating x y r =
     Enclosed (unitsOff r) (linked x y (λ d. valueOf rating d r))
     (record { joins = record { a = x; b = y }; sound = soundParts rating r; broken = allParts r - soundParts rating r })
 
-module _ (rating : ℕ → ℕ) (most : AtMostS rating) where
+module _ (rating : ℕ → ℕ) (chances : AtMostS rating) where
   module _ (x y : ℕ) where
     in-units : (v : ℕ) → v ≤ S → Fits rating x y (Units v)
     in-units v h = link-enclosed 0 (linked x y (λ d. v)) h (le-refl v) (omega arith)
 
     by-length : (k : ℕ) → k ≤ 511 → Fits rating x y (OfLength k)
     by-length k h =
-        let all : rating k * J * J + (S * S * S - rating k * J * J) ≡ S * S * S = add-sub-of-le (omega (arith, most k h)) in
+        let all : rating k * J * J + (S * S * S - rating k * J * J) ≡ S * S * S = add-sub-of-le (omega (arith, chances k h)) in
         record {
           joins = refl;
           some = rw all (lit< tt);
@@ -57,7 +57,7 @@ module _ (rating : ℕ → ℕ) (most : AtMostS rating) where
 
   -- all parts of a link: S, and S × S times as many where it is given by length
   parts : (w : ℕ) → soundParts rating (rated w) + (allParts (rated w) - soundParts rating (rated w)) ≡ S ^ (1 + 2 * cond (isLength (rated w)) 1 0)
-  parts = by-rated (λ r. soundParts rating r + (allParts r - soundParts rating r) ≡ S ^ (1 + 2 * cond (isLength r) 1 0)) (λ v h. add-sub-of-le h) (λ k h. add-sub-of-le (omega (arith, most k h))) refl
+  parts = by-rated (λ r. soundParts rating r + (allParts r - soundParts rating r) ≡ S ^ (1 + 2 * cond (isLength r) 1 0)) (λ v h. add-sub-of-le h) (λ k h. add-sub-of-le (omega (arith, chances k h))) refl
 
 -- one link more: one length more where it is given by length
 counted : (t : Bool) (i : ℕ) (is : List ℕ) → length {A = ℕ} (elim t [ true ↦ i ∷ is | false ↦ is ]) ≡ cond t 1 0 + length is
@@ -95,19 +95,19 @@ module _ (b : List ℕ) where
   fewer-at zero (j ∷ is) = omega (arith, one-more j is)
   fewer-at (suc i) (j ∷ is) = omega (arith, fewer-at i is, one-more j is, one-more j (deleteAt i is))
 
-  module _ (rating : ℕ → ℕ) (most : AtMostS rating) where
+  module _ (rating : ℕ → ℕ) (chances : AtMostS rating) where
     -- the links at any places
     enclosed-at : (is : List ℕ) → AllEnclosed (map off is) (map (linkIn rating b) is) (map (weightIn rating b) is)
     unfolding linkIn weightIn
     enclosed-at [] = nil
-    enclosed-at (i ∷ is) = cons (value-fits rating most (firstEnd b i) (secondEnd b i) (fileValue b i)) (enclosed-at is)
+    enclosed-at (i ∷ is) = cons (value-fits rating chances (firstEnd b i) (secondEnd b i) (fileValue b i)) (enclosed-at is)
 
     -- S to the power of the links and twice the lengths
     total-at : (is : List ℕ) → total (map (weightIn rating b) is) ≡ S ^ (length is + 2 * lengthsAmong b is)
     unfolding total weightIn lengthsAmong filter
     total-at [] = refl
     total-at (i ∷ is) =
-        ap₂ _*_ (parts rating most (fileValue b i)) (total-at is)
+        ap₂ _*_ (parts rating chances (fileValue b i)) (total-at is)
         ∙ sym (pow-add S (1 + 2 * cond (byLength i) 1 0) (length is + 2 * lengthsAmong b is))
         ∙ ap (λ n. S ^ n) (omega (arith, one-more i is))
 
@@ -123,12 +123,12 @@ module _ (b : List ℕ) where
   plan-units = units-at b places
 
   -- under whatever rating is at most S
-  module _ (rating : ℕ → ℕ) (most : AtMostS rating) where
+  module _ (rating : ℕ → ℕ) (chances : AtMostS rating) where
     pub plan-enclosed : AllEnclosed unitsIn (planOf rating b .links) (weightsOf rating b)
-    plan-enclosed = enclosed-at b rating most places
+    plan-enclosed = enclosed-at b rating chances places
 
     pub plan-total : total (weightsOf rating b) ≡ S ^ (sizeM b + 2 * lengths b)
-    plan-total = total-at b rating most places ∙ ap (λ m. S ^ (m + 2 * lengths b)) (length-from 0 (sizeM b))
+    plan-total = total-at b rating chances places ∙ ap (λ m. S ^ (m + 2 * lengths b)) (length-from 0 (sizeM b))
 
   pub plan-lengths : lengths b ≤ sizeM b
   plan-lengths = omega (arith, few-at b places, length-from 0 (sizeM b))
@@ -145,7 +145,7 @@ module _ (b : List ℕ) where
     others-few = fewer-at b i places
 
     pub others-total : (rating : ℕ → ℕ) → AtMostS rating → i < sizeM b → total (deleteAt i (weightsOf rating b)) ≡ S ^ (sizeM b - 1 + 2 * otherLengths b i)
-    others-total rating most place =
+    others-total rating chances place =
         let size = length-from 0 (sizeM b) in
         let fewer : length others ≡ sizeM b - 1 = omega (arith, length-delete {i = i} places (omega arith)) in
-        ap total (sym (map-delete (weightIn rating b) i places)) ∙ total-at b rating most others ∙ ap (λ m. S ^ (m + 2 * otherLengths b i)) fewer
+        ap total (sym (map-delete (weightIn rating b) i places)) ∙ total-at b rating chances others ∙ ap (λ m. S ^ (m + 2 * otherLengths b i)) fewer

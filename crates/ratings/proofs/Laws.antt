@@ -4,8 +4,8 @@ use native.Mathlib.Omega.{arith}
 use Rattle.rounding.specs.Rounding.{S}
 use Rattle.ratings.specs.Ratings.{T, AtMostS}
 
--- a rating is a chance
-pub range : (k : ℕ) → T k ≤ S
+-- every entry is a chance
+range : (k : ℕ) → T k ≤ S
 unfolding T
 range zero = le-refl S
 range (suc k) = div-le-of-le-mul S (omega (arith, range k))

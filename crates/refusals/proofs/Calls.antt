@@ -19,7 +19,7 @@ use Rattle.causes.specs.declared.CallCause.the-variants.{Limit, Buffer, TableSi
 use Rattle.causes.specs.declared.CallVerdict.{CallVerdict}
 use Rattle.causes.specs.declared.CallVerdict.the-variants.{Accepted, Refused}
 use Rattle.causes.specs.Causes.{callReturned}
-use Rattle.refusals.specs.Refusals.{asked, workRoom, tabled, planned, plannedSecond, placed, also, given, figureVerdict, sittingVerdict}
+use Rattle.refusals.specs.Refusals.{asked, workRoom, tabled, planned, plannedSecond, placed, also, tableAndPlan, figureVerdict, sittingVerdict}
 
 -- ---- the numbers returned
 
@@ -81,8 +81,8 @@ pub tabled-means : (table : List ℕ) → tabled table ≡ Accepted ↔ Accepted
 unfolding tabled
 tabled-means table = Iff·trans (both-passed (sized table) (wellRated table), λ h. rw (h .0, h .1) refl) (accepted-table table)
 
-pub given-means : (plan table : List ℕ) → given plan table ≡ Accepted ↔ AcceptedTable table × WellFormed plan
-given-means plan table =
+pub table-and-plan-means : (plan table : List ℕ) → tableAndPlan plan table ≡ Accepted ↔ AcceptedTable table × WellFormed plan
+table-and-plan-means plan table =
     let t = tabled-means table in
     let p = Iff·trans (planned-means (verdict plan)) (accepted-means plan) in
     let e = also-means (tabled table) (planned (verdict plan)) in
@@ -92,16 +92,16 @@ given-means plan table =
 pub figure-means : (plan table : List ℕ) (limit room : ℕ) → figureVerdict plan table limit room ≡ Accepted ↔ (limit ≤ 1000000) × (16 ≤ room) × AcceptedTable table × WellFormed plan
 figure-means plan table limit room =
     let a = asked-means limit room in
-    let g = given-means plan table in
-    let e = also-means (asked limit room) (given plan table) in
+    let g = table-and-plan-means plan table in
+    let e = also-means (asked limit room) (tableAndPlan plan table) in
     (λ h. let (x, y) = e .0 h in (a .0 x .0, a .0 x .1, g .0 y .0, g .0 y .1), λ h. e .1 (a .1 (h .0, h .1), g .1 (h .2, h .3)))
 
 -- as the calls' callees ask it
 pub figure-asks : (plan table : List ℕ) (limit room : ℕ) → figureVerdict plan table limit room ≡ Accepted
-    → (limit ≤ 1000000) × (16 ≤ room) × (verdict plan ≡ PlanAccepted) × AcceptedTable table
+    → (limit ≤ 1000000) × (16 ≤ room) × AcceptedTable table × (verdict plan ≡ PlanAccepted)
 figure-asks plan table limit room e =
     let h = figure-means plan table limit room .0 e in
-    (h .0, h .1, accepted-means plan .1 (h .3), h .2)
+    (h .0, h .1, h .2, accepted-means plan .1 (h .3))
 
 -- and of a sitting, but for its saved work: both buffers
 pub sitting-means : (plan table : List ℕ) (limit room work : ℕ)
@@ -109,9 +109,9 @@ pub sitting-means : (plan table : List ℕ) (limit room work : ℕ)
 sitting-means plan table limit room work =
     let a = asked-means limit room in
     let w = work-room-means work in
-    let g = given-means plan table in
+    let g = table-and-plan-means plan table in
     let b = also-means (asked limit room) (workRoom work) in
-    let e = also-means (also (asked limit room) (workRoom work)) (given plan table) in (
+    let e = also-means (also (asked limit room) (workRoom work)) (tableAndPlan plan table) in (
       λ h. let (x, y) = e .0 h in let (u, v) = b .0 x in (a .0 u .0, a .0 u .1, w .0 v, g .0 y .0, g .0 y .1),
       λ h. e .1 (b .1 (a .1 (h .0, h .1), w .1 (h .2)), g .1 (h .3, h .4)),
     )

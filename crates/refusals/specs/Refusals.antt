@@ -44,11 +44,11 @@ also Accepted v = v
 also (Refused c) v = Refused c
 
 -- the table's causes, then the plan's
-abbrev pub given : List ℕ → List ℕ → CallVerdict
-given plan table = also (tabled table) (planned (verdict plan))
+abbrev pub tableAndPlan : List ℕ → List ℕ → CallVerdict
+tableAndPlan plan table = also (tabled table) (planned (verdict plan))
 
 abbrev pub figureVerdict : List ℕ → List ℕ → ℕ → ℕ → CallVerdict
-figureVerdict plan table limit room = also (asked limit room) (given plan table)
+figureVerdict plan table limit room = also (asked limit room) (tableAndPlan plan table)
 
 abbrev pub importanceVerdict : List ℕ → List ℕ → ℕ → ℕ → ℕ → CallVerdict
 importanceVerdict plan table place limit room = also (figureVerdict plan table limit room) (placed plan place)
@@ -58,4 +58,4 @@ differenceVerdict first second table limit room = also (figureVerdict first tabl
 
 -- of a sitting, before its saved work is looked at
 abbrev pub sittingVerdict : List ℕ → List ℕ → ℕ → ℕ → ℕ → CallVerdict
-sittingVerdict plan table limit room work = also (also (asked limit room) (workRoom work)) (given plan table)
+sittingVerdict plan table limit room work = also (also (asked limit room) (workRoom work)) (tableAndPlan plan table)

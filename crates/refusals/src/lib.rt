@@ -6,7 +6,7 @@ ghost use mathlib.Core.Path.{_≡_};
 ghost use Prim.Native.Nat.{_≤_};
 ghost use lib.ListN.{length};
 ghost use Rattle.plan.specs.Plans.{verdict};
-ghost use Rattle.refusals.specs.Refusals.{asked, workRoom, tabled, also, planned, plannedSecond, placed, given, figureVerdict, importanceVerdict, sittingVerdict};
+ghost use Rattle.refusals.specs.Refusals.{asked, workRoom, tabled, also, planned, plannedSecond, placed, tableAndPlan, figureVerdict, importanceVerdict, sittingVerdict};
 
 // Causes 7 and 9.
 fn asked_verdict(limit: u64, room: usize) -> CallVerdict
@@ -73,8 +73,8 @@ fn table_verdict(table: &[u8]) -> CallVerdict
 }
 
 // And then those of plan A.
-fn given_verdict(plan: &[u8], table: &[u8]) -> CallVerdict
-    ensures { λ r. ⌜ r ≡ given (now (plan .entry)) (now (table .entry)) ⌝ }
+fn table_and_plan(plan: &[u8], table: &[u8]) -> CallVerdict
+    ensures { λ r. ⌜ r ≡ tableAndPlan (now (plan .entry)) (now (table .entry)) ⌝ }
 {
     match table_verdict(table) {
         CallVerdict::Accepted => plan_verdict(plan),
@@ -99,7 +99,7 @@ pub fn figure_verdict(plan: &[u8], table: &[u8], limit: u64, room: usize) -> Cal
     ensures { λ r. ⌜ r ≡ figureVerdict (now (plan .entry)) (now (table .entry)) limit room ⌝ }
 {
     match asked_verdict(limit, room) {
-        CallVerdict::Accepted => given_verdict(plan, table),
+        CallVerdict::Accepted => table_and_plan(plan, table),
         CallVerdict::Refused(c) => CallVerdict::Refused(c),
     }
 }
@@ -130,7 +130,7 @@ pub fn sitting_verdict(
     ensures { λ r. ⌜ r ≡ sittingVerdict (now (plan .entry)) (now (table .entry)) limit room work ⌝ }
 {
     match sitting_asked(limit, room, work) {
-        CallVerdict::Accepted => given_verdict(plan, table),
+        CallVerdict::Accepted => table_and_plan(plan, table),
         CallVerdict::Refused(c) => CallVerdict::Refused(c),
     }
 }

@@ -29,9 +29,9 @@ use Rattle.sitting_desk.specs.Carrying.{Resumable, InRow, workOf, Resume
 
 -- a plan's work is at most 64 splits deep
 pub plan-deep : (plan : List ℕ) (rating : ℕ → ℕ) → AtMostS rating → WellFormed plan → Deep 64 (tree (planOf rating plan))
-plan-deep plan rating most w =
+plan-deep plan rating chances w =
     let g = planOf rating plan in
-    deeper (length (g .links)) 64 (tree g) (omega (arith, plan-links rating plan, w .links)) (tree-deep g (plan-valid rating plan most (accepted-means plan .1 w)))
+    deeper (length (g .links)) 64 (tree g) (omega (arith, plan-links rating plan, w .links)) (tree-deep g (plan-valid rating plan chances (accepted-means plan .1 w)))
 
 module _ (plan table saved : List ℕ) (h : Resumable plan table saved) where
   abbrev t : Tree

@@ -13,7 +13,7 @@ use lib.ListN.{length}
 use borrow.Author.Tests.{le-leb, lt-leb, leb-true, eqb-true, ne-eqb}
 use Rattle.rounding.specs.Rounding.{S}
 use Rattle.ratings.specs.Ratings.{AtMostS}
-use Rattle.ratings.proofs.Laws.{range}
+use Rattle.ratings.proofs.Laws.{built-in-range}
 use Rattle.tables.specs.Tables.{valueIn, rating, sized, neverRises, wellRated, BuyersTable, AcceptedTable}
 
 -- ---- the pass over the values
@@ -115,5 +115,5 @@ buyers-rating (x ∷ bytes) b k = refl
 
 pub rating-range : (table : List ℕ) → AcceptedTable table → AtMostS (rating table)
 unfolding rating
-rating-range table (inl e) k h = rw e (range k)
+rating-range table (inl e) k h = rw e (built-in-range k h)
 rating-range table (inr b) k h = rw (← buyers-rating table b k) (value-range table b k h)

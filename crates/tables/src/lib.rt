@@ -47,10 +47,7 @@ fn never_rises(table: &[u8]) -> bool
 pub fn is_sized(table: &[u8]) -> bool
     ensures { λ r. ⌜ r ≡ sized (now (table .entry)) ⌝ }
 {
-    if table.len() == 0 {
-        return true;
-    }
-    table.len() == 2048
+    table.len() == 0 || table.len() == 2048
 }
 
 // No bytes, or values that begin with S and never rise.

@@ -61,7 +61,7 @@ first-ok : (c : tie.After-enum-told2) → let a = c .before .before .before .bef
 first-ok c = sym (c .before .before .figure-verdict .ensures) ∙ c .enum-told2 .given .1
 
 -- the limit, the buffer, the table and the first plan were accepted
-asks : (c : tie.After-enum-told2) → let a = c .before .before .before .before .before .before .before .args in (a .limit ≤ 1000000) × (16 ≤ length (a .answer .now)) × (verdict (a .first .now) ≡ PlanAccepted) × AcceptedTable (a .table .now)
+asks : (c : tie.After-enum-told2) → let a = c .before .before .before .before .before .before .before .args in (a .limit ≤ 1000000) × (16 ≤ length (a .answer .now)) × AcceptedTable (a .table .now) × (verdict (a .first .now) ≡ PlanAccepted)
 asks c =
     let a = c .before .before .before .before .before .before .before .args in
     figure-asks (a .first .now) (a .table .now) (a .limit) (length (a .answer .now)) (first-ok c)
@@ -85,7 +85,7 @@ enum-told-4 : tie.Need-enum-told-4
 enum-told-4 c = search needs
 
 network-of-requires : tie.Need-network-of-requires
-network-of-requires c κs = let k = asks (c .before .before .before) in (k .2, k .3)
+network-of-requires c κs = let k = asks (c .before .before .before) in (k .3, k .2)
 
 network-of-requires-2 : tie.Need-network-of-requires-2
 network-of-requires-2 c κs =

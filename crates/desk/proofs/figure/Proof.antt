@@ -43,13 +43,13 @@ ok : (c : tie.After-enum-told2) → let a = c .before .before .before .before .b
 ok c = sym (c .before .before .figure-verdict .ensures) ∙ c .enum-told2 .given .1
 
 -- the limit, the buffer, the table and the plan were accepted
-asks : (c : tie.After-enum-told2) → let a = c .before .before .before .before .before .before .args in (a .limit ≤ 1000000) × (16 ≤ length (a .answer .now)) × (verdict (a .plan .now) ≡ PlanAccepted) × AcceptedTable (a .table .now)
+asks : (c : tie.After-enum-told2) → let a = c .before .before .before .before .before .before .args in (a .limit ≤ 1000000) × (16 ≤ length (a .answer .now)) × AcceptedTable (a .table .now) × (verdict (a .plan .now) ≡ PlanAccepted)
 asks c =
     let a = c .before .before .before .before .before .before .args in
     figure-asks (a .plan .now) (a .table .now) (a .limit) (length (a .answer .now)) (ok c)
 
 network-of-requires : tie.Need-network-of-requires
-network-of-requires c κs = (asks c .2, asks c .3)
+network-of-requires c κs = (asks c .3, asks c .2)
 
 work-requires : tie.Need-work-requires
 work-requires c κs =

@@ -44,15 +44,15 @@ ok : (c : tie.After-enum-told2) → let a = c .before .before .before .before .b
 ok c = sym (c .before .before .importance-verdict .ensures) ∙ c .enum-told2 .given .1
 
 -- the limit, the buffer, the table and the plan were accepted, and then the place
-asks : (c : tie.After-enum-told2) → let a = c .before .before .before .before .before .before .args in (a .limit ≤ 1000000) × (16 ≤ length (a .answer .now)) × (verdict (a .plan .now) ≡ PlanAccepted) × AcceptedTable (a .table .now) × (a .place < sizeM (a .plan .now))
+asks : (c : tie.After-enum-told2) → let a = c .before .before .before .before .before .before .args in (a .limit ≤ 1000000) × (16 ≤ length (a .answer .now)) × AcceptedTable (a .table .now) × (verdict (a .plan .now) ≡ PlanAccepted) × (a .place < sizeM (a .plan .now))
 asks c =
     let a = c .before .before .before .before .before .before .args in
     let (w, z) = also-means (figureVerdict (a .plan .now) (a .table .now) (a .limit) (length (a .answer .now))) (placed (a .plan .now) (a .place)) .0 (ok c) in
-    let (l, r, p, t) = figure-asks (a .plan .now) (a .table .now) (a .limit) (length (a .answer .now)) w in
-    (l, r, p, t, placed-means (a .plan .now) (a .place) .0 z)
+    let (l, r, t, p) = figure-asks (a .plan .now) (a .table .now) (a .limit) (length (a .answer .now)) w in
+    (l, r, t, p, placed-means (a .plan .now) (a .place) .0 z)
 
 network-of-requires : tie.Need-network-of-requires
-network-of-requires c κs = (asks c .2, asks c .3)
+network-of-requires c κs = (asks c .3, asks c .2)
 
 importance-requires : tie.Need-importance-requires
 importance-requires c κs =

@@ -17,15 +17,6 @@ use Rattle.lines.proofs.Texts.{Remaining, begun, room, goes-on, done}
 use borrow.Author.Needs.{needs}
 use Rattle.listing.proofs.put_plan.Statement.{statement}
 use Rattle.listing.proofs.put_plan.Tie as tie
-use Rattle.listing.proofs.put_plan.Reads as reads
-use Rattle.listing.proofs.put_plan.Lts as lts
-use Rattle.factoring.proofs.work.Reads as work-reads
-use Rattle.listing_lines.proofs.put_figure.Reads as put-figure-reads
-use Rattle.listing_lines.proofs.put_limits.Reads as put-limits-reads
-use Rattle.listing.proofs.put_links.Reads as put-links-reads
-use Rattle.listing_lines.proofs.put_sizes.Reads as put-sizes-reads
-use Rattle.reader.proofs.sizes_of.Reads as sizes-of-reads
-use Rattle.steps.proofs.pieces.Reads as pieces-reads
 
 -- what remains of the listing of a plan
 abbrev Left : List ℕ → List ℕ → List ℕ → ℕ → List ℕ → Type 0

@@ -9,14 +9,14 @@ sitting-asked-requires c κs = search needs
 enum-told : tie.Need-enum-told
 enum-told c = search needs
 
-given-verdict-requires : tie.Need-given-verdict-requires
-given-verdict-requires c κs = search needs
+table-and-plan-requires : tie.Need-table-and-plan-requires
+table-and-plan-requires c κs = search needs
 
 enum-known-c : tie.Need-enum-known-c
 enum-known-c c = search needs
 
 returns : tie.Need-returns
-returns c = passed-on _ _ _ _ (c .before .before .before .sitting-asked .ensures) (c .before .enum-told .given .1) (c .given-verdict .ensures)
+returns c = passed-on _ _ _ _ (c .before .before .before .sitting-asked .ensures) (c .before .enum-told .given .1) (c .table-and-plan .ensures)
 
 returns-2 : tie.Need-returns-2
 returns-2 c = refused-first _ _ _ _ (c .before .before .before .sitting-asked .ensures) (c .before .c .given .1)
@@ -24,4 +24,4 @@ returns-2 c = refused-first _ _ _ _ (c .before .before .before .sitting-asked .e
 pub sitting-verdict-spec : {M : Type 1} → statement M
 sitting-verdict-spec =
     tie.close
-    (tie.spec sitting-asked-requires enum-told given-verdict-requires enum-known-c returns returns-2)
+    (tie.spec sitting-asked-requires enum-told table-and-plan-requires enum-known-c returns returns-2)
