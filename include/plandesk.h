@@ -48,7 +48,7 @@
    took figure about 0.4 seconds on one core of x86-64, and importance and difference, which work two networks, up to 0.8.
    The slowest of 400 random plans took about as long a step. A sitting takes about as long as a figure under its limit:
    about 0.4 seconds for a first sitting of the mesh at 1,000,000. A later one walks down the open splits first, which
-   with 55 of them took less than a ten-thousandth of a second. A table took any call less than a millionth of a second
+   with 55 of them took less than a ten-thousandth of a second. A table took figure less than a millionth of a second
    more. A call cannot be stopped; a smaller limit ends it sooner. */
 
 #ifndef PLANDESK_H
