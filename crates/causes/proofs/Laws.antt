@@ -1,6 +1,7 @@
 -- The numbers returned.
-use Prim.Native.Nat.{_≤_}
+use Prim.Native.Nat.{ℕ, _≤_}
 use mathlib.Core.Path.{_≡_, refl}
+use mathlib.Core.Bool.{Bool, true, false, cond}
 use native.Mathlib.Omega.{arith}
 use Rattle.plan.proofs.Verdicts.{number-range}
 use Rattle.causes.specs.declared.CallCause.{CallCause}
@@ -24,3 +25,9 @@ call-number-range (SecondPlan c) = omega (arith, number-range c)
 pub zero-accepted : (v : CallVerdict) → callReturned v ≡ 0 → v ≡ Accepted
 zero-accepted Accepted e = refl
 zero-accepted (Refused c) e = absurd (omega (arith, call-number-range c))
+
+-- of two tests, one behind the other, both are passed where neither refuses
+pub both-passed : (s t : Bool) (c d : CallCause) → cond s (cond t Accepted (Refused d)) (Refused c) ≡ Accepted → (s ≡ true) × (t ≡ true)
+both-passed true true c d e = (refl, refl)
+both-passed true false c d e = let z : _≡_ {A = ℕ} 0 1 = cc in absurd (omega arith)
+both-passed false t c d e = let z : _≡_ {A = ℕ} 0 1 = cc in absurd (omega arith)

@@ -19,6 +19,7 @@ use Rattle.causes.specs.declared.CallCause.the-variants.{Limit, Buffer, TableSi
 use Rattle.causes.specs.declared.CallVerdict.{CallVerdict}
 use Rattle.causes.specs.declared.CallVerdict.the-variants.{Accepted, Refused}
 use Rattle.causes.specs.Causes.{callReturned}
+use Rattle.causes.proofs.Laws.{both-passed}
 use Rattle.refusals.specs.Refusals.{asked, workRoom, tabled, planned, plannedSecond, placed, also, tableAndPlan, figureVerdict, sittingVerdict}
 
 -- ---- the numbers returned
@@ -70,16 +71,10 @@ pub also-means : (u v : CallVerdict) → also u v ≡ Accepted ↔ (u ≡ Accept
 also-means Accepted v = (λ e. (refl, e), λ h. h .1)
 also-means (Refused c) v = (λ e. let z : _≡_ {A = ℕ} 0 1 = cc in absurd (omega arith), λ h. h .0)
 
--- both tests of a table are passed
-both-passed : (s t : Bool) → cond s (cond t Accepted (Refused TableValues)) (Refused TableSize) ≡ Accepted → (s ≡ true) × (t ≡ true)
-both-passed true true e = (refl, refl)
-both-passed true false e = let z : _≡_ {A = ℕ} 0 1 = cc in absurd (omega arith)
-both-passed false t e = let z : _≡_ {A = ℕ} 0 1 = cc in absurd (omega arith)
-
 -- an accepted table is the built-in one or 512 values that begin with S and never rise
 pub tabled-means : (table : List ℕ) → tabled table ≡ Accepted ↔ AcceptedTable table
 unfolding tabled
-tabled-means table = Iff·trans (both-passed (sized table) (wellRated table), λ h. rw (h .0, h .1) refl) (accepted-table table)
+tabled-means table = Iff·trans (both-passed (sized table) (wellRated table) TableSize TableValues, λ h. rw (h .0, h .1) refl) (accepted-table table)
 
 pub table-and-plan-means : (plan table : List ℕ) → tableAndPlan plan table ≡ Accepted ↔ AcceptedTable table × WellFormed plan
 table-and-plan-means plan table =

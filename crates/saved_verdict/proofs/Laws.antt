@@ -8,6 +8,7 @@ use native.Mathlib.Omega.{arith}
 use Rattle.reliability.specs.Rule.{Tree}
 use Rattle.causes.specs.declared.CallCause.the-variants.{SavedWork, OpenSplit}
 use Rattle.causes.specs.declared.CallVerdict.the-variants.{Accepted, Refused}
+use Rattle.causes.proofs.Laws.{both-passed}
 use Rattle.sittings.specs.Sittings.{traced}
 use Rattle.saved.specs.Format.{stateIn, opensFrom, opensOf, wellFormed}
 use Rattle.saved.proofs.Laws.{complete-means}
@@ -32,9 +33,4 @@ module _ (t : Tree) (b : List ℕ) where
 
   pub saved-means : savedVerdict t b ≡ Accepted ↔ (wellFormed b ≡ true) × (traced t (opensOf b) ≡ true)
   unfolding savedVerdict
-  saved-means = (go (wellFormed b) (traced t (opensOf b)), λ h. rw (h .0, h .1) refl)
-    where
-      go : (s u : Bool) → cond s (cond u Accepted (Refused OpenSplit)) (Refused SavedWork) ≡ Accepted → (s ≡ true) × (u ≡ true)
-      go true true e = (refl, refl)
-      go true false e = let z : _≡_ {A = ℕ} 0 1 = cc in absurd (omega arith)
-      go false u e = let z : _≡_ {A = ℕ} 0 1 = cc in absurd (omega arith)
+  saved-means = (both-passed (wellFormed b) (traced t (opensOf b)) SavedWork OpenSplit, λ h. rw (h .0, h .1) refl)
