@@ -1,7 +1,12 @@
-use mathlib.Core.Path.{ap}
+use Prim.Native.Nat.{ℕ, _+_}
+use mathlib.Core.Path.{_≡_, refl}
 use native.Mathlib.Omega.{arith}
 use borrow.Author.Needs.{needs}
+use Rattle.plan.specs.declared.Cause.{Cause}
+use Rattle.plan.specs.Plans.{number}
 use Rattle.plan.proofs.Verdicts.{number-range}
+use Rattle.causes.specs.declared.CallCause.{CallCause}
+use Rattle.causes.specs.declared.CallCause.the-variants.{SecondPlan}
 use Rattle.causes.specs.Causes.{callNumber}
 use Rattle.causes.proofs.call_number.Statement.{statement}
 use Rattle.causes.proofs.call_number.Tie as tie
@@ -66,8 +71,12 @@ returns-7 c = search needs
 returns-8 : tie.Need-returns-8
 returns-8 c = search needs
 
+-- plan B's number is 20 more
+second : (c : CallCause) (p : Cause) {n : ℕ} → c ≡ SecondPlan p → n ≡ number p → n + 20 ≡ callNumber c
+second c p e q = rw (e, q) refl
+
 returns-9 : tie.Need-returns-9
-returns-9 c = cc (ap callNumber (c .before .before .c2 .given .1))
+returns-9 c = second _ _ (c .before .before .c2 .given .1) (c .number-of2 .ensures)
 
 pub call-number-spec : {M : Type 1} → statement M
 call-number-spec =

@@ -1,6 +1,10 @@
-use mathlib.Core.Path.{ap}
+use Prim.Native.Nat.{ℕ, _+_, _*_}
+use mathlib.Core.Path.{_≡_, refl}
 use borrow.Author.Needs.{needs}
-use Rattle.causes.specs.Causes.{callReturned}
+use Rattle.causes.specs.declared.CallCause.{CallCause}
+use Rattle.causes.specs.declared.CallVerdict.{CallVerdict}
+use Rattle.causes.specs.declared.CallVerdict.the-variants.{Refused}
+use Rattle.causes.specs.Causes.{callNumber, callLink, callReturned}
 use Rattle.causes.proofs.call_returned.Statement.{statement}
 use Rattle.causes.proofs.call_returned.Tie as tie
 
@@ -31,8 +35,12 @@ add-result c = search needs
 returns : tie.Need-returns
 returns c = search needs
 
+-- the number, and 256 for each link
+refusal : (v : CallVerdict) (c : CallCause) {n k : ℕ} → v ≡ Refused c → n ≡ callNumber c → k ≡ callLink c → n + 256 * k ≡ callReturned v
+refusal v c e p q = rw (e, p, q) refl
+
 returns-2 : tie.Need-returns-2
-returns-2 c = cc (ap callReturned (c .before .before .before .v .given .1))
+returns-2 c = refusal _ _ (c .before .before .before .v .given .1) (c .before .call-number .ensures) (c .call-link .ensures)
 
 pub call-returned-spec : {M : Type 1} → statement M
 call-returned-spec =
