@@ -28,13 +28,14 @@ pub fn link_at<'r>(
 pub fn assembled<'r>(
     alive: u64,
     nodes: u32,
+    chosen: u32,
     at: &'r [u64; 32],
     a: &'r [u8; 64],
     b: &'r [u8; 64],
     low: &'r [u32; 64],
     high: &'r [u32; 64],
 ) -> Network
-    ensures { λ r. ⌜ r ≡ assembled alive nodes (now (at .entry)) (now (a .entry)) (now (b .entry)) (now (low .entry)) (now (high .entry)) ⌝ }
+    ensures { λ r. ⌜ r ≡ assembled alive nodes chosen (now (at .entry)) (now (a .entry)) (now (b .entry)) (now (low .entry)) (now (high .entry)) ⌝ }
 {
     Network {
         alive,
@@ -44,5 +45,6 @@ pub fn assembled<'r>(
         a: *a,
         b: *b,
         nodes,
+        chosen,
     }
 }

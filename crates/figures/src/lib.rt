@@ -4,7 +4,7 @@ use reliability::Figure;
 use reliability::Link;
 use rounding::Direction;
 ghost use mathlib.Core.Path.{_≡_};
-ghost use mathlib.Core.Bool.{true, _&&_};
+ghost use mathlib.Core.Bool.{true, cond, _&&_};
 ghost use Prim.Native.Nat.{_+_, _-_, _^_, _≤_, _<_};
 ghost use lib.IntN.{pos, _-ℤ_};
 ghost use Rattle.rounding.specs.Rounding.{S, factor};
@@ -20,7 +20,7 @@ fn both(a: bool, b: bool) -> bool
 }
 
 // The figure f multiplied by a factor for each side.
-pub fn times(low: u32, high: u32, f: Figure) -> Figure
+fn times(low: u32, high: u32, f: Figure) -> Figure
     requires { ⌜ (low ≤ S) × (high ≤ S) × (f .low ≤ S) × (f .high ≤ S) ⌝ }
     ensures { λ r. ⌜ r ≡ times (sides low high) f ⌝ }
 {
@@ -35,13 +35,29 @@ pub fn times(low: u32, high: u32, f: Figure) -> Figure
 }
 
 // The figure f multiplied by the factor of two links in series.
-pub fn times_factor(e: Link, k: Link, f: Figure) -> Figure
+fn times_factor(e: Link, k: Link, f: Figure) -> Figure
     requires { ⌜ (e .low ≤ S) × (e .high ≤ S) × (k .low ≤ S) × (k .high ≤ S) × (f .low ≤ S) × (f .high ≤ S) ⌝ }
     ensures { λ r. ⌜ r ≡ times (λ d. factor d (value d e) (value d k)) f ⌝ }
 {
     let low = rounding::factor(Direction::Down, e.low, k.low);
     let high = rounding::factor(Direction::Up, e.high, k.high);
     times(low, high, f)
+}
+
+// The figure where an end with link e goes, from that of the rest: multiplied by its values where the node is chosen.
+pub fn end_of(chosen: bool, e: Link, f: Figure) -> Figure
+    requires { ⌜ (e .low ≤ S) × (e .high ≤ S) × (f .low ≤ S) × (f .high ≤ S) ⌝ }
+    ensures { λ r. ⌜ r ≡ cond chosen (times (λ d. value d e) f) f ⌝ }
+{
+    if chosen { times(e.low, e.high, f) } else { f }
+}
+
+// The figure where a node with links e and k goes, from that of the rest: multiplied by their factor where the node is chosen.
+pub fn series_of(chosen: bool, e: Link, k: Link, f: Figure) -> Figure
+    requires { ⌜ (e .low ≤ S) × (e .high ≤ S) × (k .low ≤ S) × (k .high ≤ S) × (f .low ≤ S) × (f .high ≤ S) ⌝ }
+    ensures { λ r. ⌜ r ≡ cond chosen (times (λ d. factor d (value d e) (value d k)) f) f ⌝ }
+{
+    if chosen { times_factor(e, k, f) } else { f }
 }
 
 // The figure of a split on link e, from those of its two branches, and the steps that it takes itself.

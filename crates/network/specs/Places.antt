@@ -9,8 +9,8 @@ use Rattle.reliability.specs.declared.Link.{Link}
 use Rattle.reliability.specs.declared.Step.{Step}
 use Rattle.reliability.specs.declared.Step.the-variants.{OneNode, Disconnected, Loop, Parallel, End, Series, Split}
 use Rattle.reliability.specs.Networks.{Network as Graph, Valid, linkAt}
-use Rattle.reliability.specs.Rule.{next}
-use Rattle.search.specs.Searches.{pick, nodesIn, Incidence}
+use Rattle.reliability.specs.Terminals.{Terminals, among, next}
+use Rattle.search.specs.Searches.{pick, nodesIn, Inside, Incidence}
 use Rattle.network.specs.declared.Network.{Network}
 
 -- how many of the places below p are set
@@ -38,9 +38,16 @@ linksOf n = pick (members (n .alive)) (rows (n .a) (n .b) (n .low) (n .high))
 abbrev pub nodesOf : Network → List ℕ
 nodesOf n = nodesIn (n .nodes)
 
+abbrev pub chosenOf : Network → List ℕ
+chosenOf n = nodesIn (n .chosen)
+
 -- the network that n stands for
 abbrev pub networkOf : Network → Graph
 networkOf n = record { nodes = nodesOf n; links = linksOf n }
+
+-- with its chosen nodes
+abbrev pub terminalsOf : Network → Terminals
+terminalsOf n = among (chosenOf n) (networkOf n)
 
 -- a place in use
 pub record Used (n : Network) (p : ℕ) : Type 0 where
@@ -58,16 +65,18 @@ linkOf n p = linkAt (networkOf n) (indexOf n p)
 -- what holds of every network that is a value: its arrays are full, and it has at most 32 nodes
 pub record Sized (n : Network) : Type 0 where
   pub nodes : n .nodes < 2 ^ 32
+  pub chosen : n .chosen < 2 ^ 32
   pub at-length : length (n .at) ≡ 32
   pub a-length : length (n .a) ≡ 64
   pub b-length : length (n .b) ≡ 64
   pub low-length : length (n .low) ≡ 64
   pub high-length : length (n .high) ≡ 64
 
--- what holds of a network by value at all times: the links at each node are those that are counted anew
--- (their number is the node's tally: tally-counted in proofs/Rules.antt)
+-- what holds of a network by value at all times: its chosen nodes are nodes, and the links at each node are those that are counted
+-- anew (their number is the node's tally: tally-counted in proofs/Rules.antt)
 pub record Invariant (n : Network) : Type 0 where
   pub valid : Valid (networkOf n)
+  pub inside : Inside (n .chosen) (n .nodes)
   pub tallies : Incidence (n .at) (n .alive) (n .a) (n .b)
 
 -- the tally of node v
@@ -75,8 +84,8 @@ abbrev pub tally : Network → ℕ → ℕ
 tally n v = howMany (members (getD (n .at) v 0))
 
 -- a network put together from its parts
-abbrev pub assembled : ℕ → ℕ → List ℕ → List ℕ → List ℕ → List ℕ → List ℕ → Network
-assembled alive nodes at as₁ bs lows highs = record { alive = alive; at = at; low = lows; high = highs; a = as₁; b = bs; nodes = nodes }
+abbrev pub assembled : ℕ → ℕ → ℕ → List ℕ → List ℕ → List ℕ → List ℕ → List ℕ → Network
+assembled alive nodes chosen at as₁ bs lows highs = record { alive = alive; at = at; low = lows; high = highs; a = as₁; b = bs; nodes = nodes; chosen = chosen }
 
 -- a network that is being built: its k links stand at the places 0 to k − 1
 unfoldable pub Built : Network → ℕ → Type 0
@@ -104,5 +113,5 @@ Placed n (Split i) = Used n i
 
 -- s is the step that fits, by places in use
 pub record Fitting (n : Network) (s : Step) : Type 0 where
-  pub by-rule : ranked n s ≡ next (networkOf n)
+  pub by-rule : ranked n s ≡ next (terminalsOf n)
   pub placed : Placed n s

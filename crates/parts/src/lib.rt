@@ -2,14 +2,14 @@
 use rounding::Direction;
 ghost use mathlib.Core.Path.{_≡_};
 ghost use mathlib.Core.Bool.{true, false, cond};
-ghost use Prim.Native.Nat.{_≤_, _<_, min, max};
-ghost use lib.Dec.{eqb};
+ghost use Prim.Native.Nat.{_^_, _≤_, _<_, min, max};
 ghost use lib.ListN.{length, getD, set};
 ghost use Rattle.bits.specs.Members.{members};
-ghost use Rattle.rounding.specs.Rounding.{S, parallel};
+ghost use Rattle.rounding.specs.Rounding.{S, product, parallel, series};
 ghost use Rattle.reliability.specs.Rule.{rename, without};
+ghost use Rattle.reliability.specs.Terminals.{into};
 ghost use Rattle.search.specs.Searches.{nodesIn};
-ghost use Rattle.parts.specs.Tallies.{Written, Merged, changedAt};
+ghost use Rattle.parts.specs.Tallies.{Written, Merged, Cleared, Remaining, changedAt};
 
 // Link i is not at node x any more.
 pub fn take_out(at: &mut [u64; 32], x: u8, i: usize)
@@ -81,19 +81,53 @@ pub fn higher(x: u8, y: u8) -> u8
     if x < y { y } else { x }
 }
 
-// The end of a link a to b that is not v.
-pub fn across(v: u8, a: u8, b: u8) -> u8
-    ensures { λ r. ⌜ r ≡ cond (eqb a v) b a ⌝ }
-{
-    if a == v { b } else { a }
-}
-
 // The nodes without v.
 pub fn without_node(nodes: u32, v: usize) -> u32
     requires { ⌜ v < 64 ⌝ }
     ensures { λ r. ⌜ nodesIn r ≡ without v (nodesIn nodes) ⌝ }
 {
     bits::without(nodes as u64, v) as u32
+}
+
+// The nodes with gone taken into keep: keep is among them if either was.
+pub fn into(nodes: u32, keep: usize, gone: usize) -> u32
+    requires { ⌜ (keep < 32) × (gone < 32) ⌝ }
+    ensures { λ r. ⌜ nodesIn r ≡ into keep gone (nodesIn nodes) ⌝ }
+{
+    if bits::has(nodes as u64, gone) {
+        bits::with(bits::without(nodes as u64, gone), keep) as u32
+    } else {
+        nodes
+    }
+}
+
+// The links at the nodes of a set go. Answers which of the links in alive are left.
+pub fn clear(at: &mut [u64; 32], nodes: u64, alive: u64) -> u64
+    requires { ⌜ (length (now at) ≡ 32) × (nodes < 2 ^ 32) ⌝ }
+    ensures { λ r. ⌜ Remaining nodes (now (at .entry)) alive r ⌝ }
+    ensures { λ _. ⌜ Cleared nodes (now (at .entry)) (now (at .exit)) ⌝ }
+{
+    let mut left = alive;
+    let mut t = nodes;
+    while t != 0 {
+        let v = bits::lowest(t);
+        left = bits::difference(left, at[v]);
+        at[v] = 0;
+        t = bits::without_lowest(t);
+    }
+    left
+}
+
+// The value of two links at a node as one: in series where the node is chosen, else their product.
+pub fn line(chosen: bool, d: Direction, p: u32, q: u32) -> u32
+    requires { ⌜ (p ≤ S) × (q ≤ S) ⌝ }
+    ensures { λ r. ⌜ r ≡ cond chosen (series d p q) (product d p q) ⌝ }
+{
+    if chosen {
+        rounding::series(d, p, q)
+    } else {
+        rounding::product(d, p, q)
+    }
 }
 
 // Place i gets the value of links i and j side by side.

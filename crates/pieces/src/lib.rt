@@ -9,7 +9,7 @@ ghost use Rattle.search.specs.Searches.{nodesIn, endsIn, Incidence, Bounded, En
 ghost use Rattle.pieces.specs.Pieces.{Closed, PieceOf};
 
 // Of a set of nodes that no link leaves, those in v's piece: from v on, each link is followed at most once.
-fn piece_of<'r>(
+pub fn piece_of<'r>(
     v: usize,
     nodes: u64,
     alive: u64,

@@ -2,7 +2,7 @@
 use Prim.Native.Nat.{ℕ, zero, suc, _+_, _<_}
 use mathlib.Core.Path.{_≡_}
 use mathlib.Core.List.{List, [], _∷_, map}
-use mathlib.Core.Bool.{Bool, true, false, cond, _&&_, _||_}
+use mathlib.Core.Bool.{Bool, true, false, cond, not, _&&_, _||_}
 use lib.Dec.{eqb}
 use lib.ListN.{getD}
 use Rattle.bits.specs.Members.{members, howMany}
@@ -33,6 +33,10 @@ placesIn s = pick (members s) (from 0 64)
 -- the nodes of a set
 abbrev pub nodesIn : ℕ → List ℕ
 nodesIn = placesIn
+
+-- each node of the set s is one of the set t
+abbrev pub Inside : ℕ → ℕ → Type 0
+Inside s t = (v : ℕ) → getD (members s) v false ≡ true → getD (members t) v false ≡ true
 
 -- ---- the links at their places
 
@@ -91,6 +95,20 @@ pairIn t (i ∷ is) = elim (filter (t i) is) [ [] ↦ pairIn t is | j ∷ js ↦
 -- the nodes of a set at which there are d links
 abbrev pub withLinks : ℕ → List ℕ → ℕ → List ℕ
 withLinks d at nodes = filter (λ v. eqb (howMany (members (getD at v 0))) d) (nodesIn nodes)
+
+-- the neighbour of v across the link at place k
+abbrev pub acrossAt : List ℕ → List ℕ → ℕ → ℕ → ℕ
+acrossAt as₁ bs v k = cond (eqb (getD as₁ k 0) v) (getD bs k 0) (getD as₁ k 0)
+
+-- v is not chosen, or both its neighbours across the links at the first two places of s are
+abbrev pub betweenAt : ℕ → List ℕ → List ℕ → ℕ → ℕ → Bool
+betweenAt chosen as₁ bs v s =
+    let among : ℕ → Bool = λ u. getD (members chosen) u false in
+    not (among v) || (among (acrossAt as₁ bs v (getD (placesIn s) 0 0)) && among (acrossAt as₁ bs v (getD (placesIn s) 1 0)))
+
+-- the nodes of a set at which there are two links that can become one
+abbrev pub inLine : ℕ → List ℕ → List ℕ → List ℕ → ℕ → List ℕ
+inLine chosen at as₁ bs nodes = filter (λ v. eqb (howMany (members (getD at v 0))) 2 && betweenAt chosen as₁ bs v (getD at v 0)) (nodesIn nodes)
 
 -- the number of links at v where v is in a set of nodes, else 0
 abbrev pub countAt : ℕ → List ℕ → ℕ → ℕ

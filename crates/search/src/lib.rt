@@ -1,9 +1,11 @@
 // The searches over the links in use, by place: numbers and arrays alone.
 ghost use mathlib.Core.Path.{_≡_};
+ghost use mathlib.Core.Bool.{cond};
 ghost use Prim.Native.Nat.{_+_, _^_, _<_};
+ghost use lib.ListN.{getD};
 ghost use lib.Dec.{eqb, leb};
 ghost use Rattle.bits.specs.Members.{members, howMany};
-ghost use Rattle.search.specs.Searches.{placesIn, Incidence, Bounded, found, loops, beside, pairIn, withLinks, countsOf, countSum, largestIn};
+ghost use Rattle.search.specs.Searches.{placesIn, Incidence, Bounded, found, loops, beside, pairIn, withLinks, betweenAt, inLine, countsOf, countSum, largestIn};
 
 pub enum Found {
     At(usize),
@@ -66,23 +68,54 @@ fn is_two(s: u64) -> bool
     s != 0 && is_one(bits::without_lowest(s))
 }
 
-// Whether s has d places, one or two.
-fn has_places(s: u64, d: u32) -> bool
-    requires { ⌜ (0 < d) × (d < 3) ⌝ }
-    ensures { λ r. ⌜ r ≡ eqb (howMany (members s)) d ⌝ }
-{
-    if d == 1 { is_one(s) } else { is_two(s) }
-}
-
-// The lowest node with d links, one or two.
-pub fn lowest_with(d: u32, nodes: u64, at: &[u64; 32]) -> Found
-    requires { ⌜ (0 < d) × (d < 3) × (nodes < 2 ^ 32) ⌝ }
-    ensures { λ r. ⌜ r ≡ found (withLinks d (now (at .entry)) nodes) ⌝ }
+// The lowest node with one link.
+pub fn lowest_end(nodes: u64, at: &[u64; 32]) -> Found
+    requires { ⌜ nodes < 2 ^ 32 ⌝ }
+    ensures { λ r. ⌜ r ≡ found (withLinks 1 (now (at .entry)) nodes) ⌝ }
 {
     let mut t = nodes;
     while t != 0 {
         let v = bits::lowest(t);
-        if has_places(at[v], d) {
+        if is_one(at[v]) {
+            return Found::At(v);
+        }
+        t = bits::without_lowest(t);
+    }
+    Found::Nothing
+}
+
+// The end of a link a to b that is not v.
+pub fn across(v: u8, a: u8, b: u8) -> u8
+    ensures { λ r. ⌜ r ≡ cond (eqb a v) b a ⌝ }
+{
+    if a == v { b } else { a }
+}
+
+// Whether v is not chosen, or both its neighbours across the links at the two places of s are.
+fn between<'r>(v: usize, s: u64, chosen: u64, a: &'r [u8; 64], b: &'r [u8; 64]) -> bool
+    requires { ⌜ (v < 32) × (howMany (members s) ≡ 2) × Bounded s (now a) (now b) ⌝ }
+    ensures { λ r. ⌜ r ≡ betweenAt chosen (now (a .entry)) (now (b .entry)) v s ⌝ }
+{
+    if !bits::has(chosen, v) {
+        return true;
+    }
+    let i = bits::lowest(s);
+    let j = bits::lowest(bits::without_lowest(s));
+    let x = across(v as u8, a[i], b[i]);
+    let y = across(v as u8, a[j], b[j]);
+    bits::has(chosen, x as usize) && bits::has(chosen, y as usize)
+}
+
+// The lowest node with two links that can become one.
+pub fn lowest_in_line<'r>(nodes: u64, chosen: u64, at: &'r [u64; 32], a: &'r [u8; 64], b: &'r [u8; 64]) -> Found
+    requires { ⌜ (nodes < 2 ^ 32) × ((v : ℕ) → v < 32 → Bounded (getD (now at) v 0) (now a) (now b)) ⌝ }
+    ensures { λ r. ⌜ r ≡ found (inLine chosen (now (at .entry)) (now (a .entry)) (now (b .entry)) nodes) ⌝ }
+{
+    let mut t = nodes;
+    while t != 0 {
+        let v = bits::lowest(t);
+        let s = at[v];
+        if is_two(s) && between(v, s, chosen, a, b) {
             return Found::At(v);
         }
         t = bits::without_lowest(t);
