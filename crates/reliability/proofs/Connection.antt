@@ -45,6 +45,12 @@ to-label (e ∷ t) v =
     let ends = join (turn (more e (to-label t (e .a)))) (forth (List·Memᴰ·head refl) (more e (to-label t (e .b)))) in
     join (more e (to-label t v)) (to-merged _ _ (label t v) ends)
 
+-- more links have the same paths
+path-within : {t s : List Ends} → ((e : Ends) → List·Memᴰ e t → List·Memᴰ e s) → {u v : ℕ} → Path t u v → Path s u v
+path-within h here = here
+path-within h (forth {e = e} m p) = forth (h e m) (path-within h p)
+path-within h (back {e = e} m p) = back (h e m) (path-within h p)
+
 -- ---- colourings
 
 -- no link of t joins two colours
@@ -71,7 +77,7 @@ unfolding merge
 merged x y z h = by-eqb (λ b. cond b (min x y) z ≡ min x y) z (max x y) (λ e. refl) h
 
 -- the labels are such a colouring
-label-const : (t : List Ends) → Const (label t) t
+pub label-const : (t : List Ends) → Const (label t) t
 unfolding label
 label-const [] = tt
 label-const (e ∷ t) =
@@ -110,6 +116,12 @@ connected-means vs t = (
   λ paths. connected-complete vs t (λ χ c u v m n. along χ t c (paths u v m n)),
 )
 
+-- fewer nodes are connected by more links
+pub connected-within : (vs ws : List ℕ) (t s : List Ends) → ((u : ℕ) → List·Memᴰ u ws → List·Memᴰ u vs) → ((e : Ends) → List·Memᴰ e t → List·Memᴰ e s)
+    → connected vs t ≡ true → connected ws s ≡ true
+connected-within vs ws t s nodes links h =
+    connected-means ws s .1 (λ u v m n. path-within links (connected-means vs t .0 h u v (nodes u m) (nodes v n)))
+
 pub connected-sound : (vs : List ℕ) (t : List Ends) → connected vs t ≡ true → Conn vs t
 connected-sound vs t h χ c u v m n = along χ t c (connected-means vs t .0 h u v m n)
 
@@ -120,3 +132,10 @@ connected-eq vs ws t s f g =
 
 pub not-connected : (vs : List ℕ) (t : List Ends) → (Conn vs t → ⊥) → connected vs t ≡ false
 not-connected vs t n = not-true-false (λ h. n (connected-sound vs t h))
+
+-- one more node is connected with nodes that are where it has the label of one of them
+pub one-more : (v c : ℕ) (vs : List ℕ) (t : List Ends) → connected vs t ≡ true → List·Memᴰ c vs → connected (v ∷ vs) t ≡ eqb (label t v) (label t c)
+unfolding connected
+one-more v c vs t h m = by-eqb (λ b. connected (v ∷ vs) t ≡ b) (label t v) (label t c)
+    (λ e. every-of _ vs (λ u n. eq-eqb _ _ (one-label vs t h u c n m ∙ sym e)))
+    (λ differ. not-connected (v ∷ vs) t (λ conn. differ (conn (label t) (label-const t) v c (List·Memᴰ·head refl) (List·Memᴰ·tail m))))

@@ -1,5 +1,5 @@
 -- Each figure bounds S times the exact sum from its side, and a finished one is off by at most m + 2n units.
-use Prim.Native.Nat.{ℕ, zero, suc, _+_, _-_, _*_, _^_, _≤_, _<_, max, zero-le, suc-le-suc}
+use Prim.Native.Nat.{ℕ, zero, suc, _+_, _-_, _*_, _^_, _≤_, _<_, zero-le, suc-le-suc}
 use mathlib.Core.Path.{_≡_, refl, sym, ap, ap₂, _∙_, subst}
 use mathlib.Core.List.{List, [], _∷_, map, List·Memᴰ, List·Memᴰ·head, List·Memᴰ·tail}
 use mathlib.Core.Bool.{Bool, true, false, _&&_, false≢true, and-eq-true-iff}
@@ -15,19 +15,14 @@ use Rattle.rounding.proofs.Laws.{ring}
 use Rattle.rounding.proofs.Operations.{product-rounds, split-rounds, shares as portions}
 use Rattle.reliability.specs.declared.Link.{Link}
 use Rattle.reliability.specs.declared.Figure.{Figure}
-use Rattle.reliability.specs.declared.Step.{Step}
-use Rattle.reliability.specs.declared.Step.the-variants.{OneNode, Disconnected, Loop, Parallel, End, Series, Split}
-use Rattle.reliability.specs.Networks.{Network, Valid, value, linkAt}
+use Rattle.reliability.specs.Networks.{value}
 use Rattle.reliability.specs.Exact.{weighted}
-use Rattle.reliability.specs.Rule.{without, nextAt, leaves, stepAt, Remainder, settled, rest, scaled, branches, Tree, ready, fork, grown, treeOf, bounded, side, times, mixed, stepped, unfinished, run, budget}
+use Rattle.reliability.specs.Rule.{without, Remainder, settled, rest, scaled, branches, Tree, ready, fork, grown, treeOf, bounded, side, times, mixed, stepped, unfinished, run, budget}
 use Rattle.reliability.proofs.States.{sum-total}
 use Rattle.reliability.proofs.Within.{Within, equal, rounded, weaken, trans, plus, by, same}
 use Rattle.reliability.proofs.Lawful.{Leaves, View, exactly, Place, Reduces, Fewer, Sized, Lawful, Choice, of-tree}
 use Rattle.reliability.proofs.Runs.{side-bounded, Ranged}
-use Rattle.reliability.proofs.Steps.{view, uniform, Fits, fits-at}
-use Rattle.reliability.proofs.Validity.{valued}
-use Rattle.reliability.proofs.Reductions.{reduces, total-is}
-use Rattle.reliability.proofs.Remainders.{left-by, settled-by}
+use Rattle.reliability.proofs.Reductions.{total-is}
 
 -- one power more
 scale : (m x : ℕ) → x * S ^ suc m ≡ S * (x * S ^ m)
@@ -192,7 +187,8 @@ module _ {N : Type 0} (Valid : N → Type 0) (μ : View N) (step : ℕ → N →
         of-tree Valid μ step choose choice Ranged m g h (λ work each. each)
         (λ i at. grown-ranged m (treeOf step choose m) (ranged m) i (step i g) (lawful .left m g h i at))
 
--- ---- the rule of document 01
+-- ---- a node goes
+
 
 keep : Bool → ℕ → List ℕ → List ℕ
 keep t u vs = elim t [ true ↦ vs | false ↦ u ∷ vs ]
@@ -212,23 +208,3 @@ unfolding without keep
 without-less v (u ∷ vs) (List·Memᴰ·head p) =
     subst (λ (t : Bool). length (keep t u (without v vs)) < suc (length vs)) (sym (eq-eqb u v (sym p))) (suc-le-suc (without-length v vs))
 without-less v (u ∷ vs) (List·Memᴰ·tail n) = suc-le-suc (le-trans (keep-length (eqb u v) u (without v vs)) (without-less v vs n))
-
-fewer : (g : Network) (s : Step) → Fits g s → Fewer view g (leaves g s)
-unfolding leaves
-fewer g OneNode h = tt
-fewer g Disconnected h = tt
-fewer g (Loop i) h = le-refl (length (g .nodes))
-fewer g (Parallel i j) h = le-refl (length (g .nodes))
-fewer g (End v i) h = without-less v (g .nodes) (h .node)
-fewer g (Series v i j) h = without-less v (g .nodes) (h .node)
-fewer g (Split i) h = (without-length (max (linkAt g i .a) (linkAt g i .b)) (g .nodes), le-refl (length (g .nodes)))
-
-pub lawful : Lawful Valid view stepAt
-lawful = record {
-  uniform = uniform;
-  values = λ g. valued;
-  left = λ m g h i at. left-by m g h (nextAt i g) (fits-at g (h .valid) i at);
-  none-left = λ g h i. settled-by g (h .size) (nextAt i g) (fits-at g (h .valid) i (λ here. absurd (omega (arith, h .size))));
-  fewer = λ g valid i at. fewer g (nextAt i g) (fits-at g valid i at);
-  reduces = λ d g valid i at. reduces d g valid (nextAt i g) (fits-at g valid i at);
-}

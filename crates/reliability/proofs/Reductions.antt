@@ -8,22 +8,22 @@ use native.Mathlib.Nat.{mul-comm, zero-mul, mul-zero, add-zero, add-sub-of-le, p
 use native.Mathlib.Omega.{arith}
 use native.Mathlib.Decide.{decLt}
 use lib.ListN.{length, getD, set, List·getD-map, length-map, length-set}
-use Rattle.rounding.specs.Rounding.{S, parallel, either, series, factor}
+use borrow.Author.Tests.{eqb-false}
+use Rattle.rounding.specs.Rounding.{S, product, parallel, either, series, factor}
 use Rattle.rounding.specs.declared.Direction.{Direction}
 use Rattle.rounding.specs.declared.Direction.the-variants.{Down, Up}
 use Rattle.rounding.proofs.Laws.{ring}
-use Rattle.rounding.proofs.Operations.{parallel-rounds, parallel-range, series-rounds, series-range, factor-zero, factor-rounds, either-complement, either-parts, either-range, either-zero, shares as portions}
+use Rattle.rounding.proofs.Operations.{product-rounds, product-range, parallel-rounds, parallel-range, series-rounds, series-range, factor-zero, factor-rounds, either-complement, either-parts, either-range, either-zero, shares as portions}
 use Rattle.reliability.specs.declared.Link.{Link}
-use Rattle.reliability.specs.declared.Step.{Step}
-use Rattle.reliability.specs.declared.Step.the-variants.{OneNode, Disconnected, Loop, Parallel, End, Series, Split}
-use Rattle.reliability.specs.Networks.{Network, Valid, Ends, ends, value, linked, linkAt, connected}
+use Rattle.reliability.specs.Networks.{Network, Valid, Ends, ends, value, linked, linkAt, label, connected}
 use Rattle.reliability.specs.Exact.{Weighted, weighted, sum, total}
-use Rattle.reliability.specs.Rule.{across, renamed, rename, deleteAt, without, leaves}
-use Rattle.reliability.proofs.Lawful.{over, Reduces}
+use Rattle.reliability.specs.Rule.{across, renamed, rename, deleteAt, without}
+use Rattle.reliability.proofs.Lawful.{over}
 use Rattle.reliability.proofs.Lists.{map-delete, map-set, mem-delete, length-delete}
-use Rattle.reliability.proofs.States.{Joins, Off, AllOff, moved, sum-more, sum-total, one-node, none-connects, loop-law, parallel-law, joined-law, end-law, series-law, contraction, front, Onto, onto-kept}
-use Rattle.reliability.proofs.Validity.{proper-at, across-node, larger-smaller, smaller-node}
-use Rattle.reliability.proofs.Steps.{view, Fits, Leg, Clear, AtLoop, AtEnd, AtSplit}
+use Rattle.reliability.proofs.Connection.{Const, label-const, one-more}
+use Rattle.reliability.proofs.States.{Joins, Off, AllOff, moved, sum-more, sum-total, one-node, none-connects, loop-law, parallel-law, joined-law, end-law, series-law, contraction, front, loose-law, line-law, astray-law, Onto}
+use Rattle.reliability.proofs.Validity.{proper-at, larger-smaller}
+use Rattle.reliability.proofs.Steps.{Leg, Clear, AtLoop, AtEnd, AtSplit}
 use Rattle.reliability.proofs.Within.{Within, equal, rounded, weaken, trans, by, same, shares}
 
 module _ (d : Direction) where
@@ -52,6 +52,13 @@ module _ (d : Direction) (p q A B M : ℕ) (hp : p ≤ S) (hq : q ≤ S) (less :
       same d (simp ring) refl
       (shares d (v * S) (S * (S - v)) (p * q + one) ((S - p) * (S - q)) A B M
       (omega (arith, either-parts p q hp hq, either-complement p q hp hq, parallel-range d p q hp hq)) less most w)
+
+  in-line : Within d true (S * M) (S * mixed (product d p q)) (p * q * A + (one + (S - p) * (S - q)) * B)
+  in-line =
+      let v = product d p q in
+      same d (simp ring) refl
+      (shares d (v * S) (S * (S - v)) (p * q) (one + (S - p) * (S - q)) A B M
+      (omega (arith, either-parts p q hp hq, either-complement p q hp hq, product-range d p q hp hq)) less most (rounded d (product-rounds d p q)))
 
   pub in-series : Within d true (S * mixed (series d p q) + S * S * M) (S * (factor d p q * mixed (series d p q))) (S * (p * q * A + one * B))
   in-series = go (decLt 0 (either p q))
@@ -151,6 +158,14 @@ module _ (d : Direction) (g : Network) (valid : Valid g) (vs : List ℕ) where
   loop-step i h = dropped i (h .place)
       (rw (at i) at (loop-law vs es i z (place (h .place)) (ap (λ (e : Weighted). e .joins .a) (at i) ∙ h .same ∙ ap (λ (e : Weighted). e .joins .b) (sym (at i)))))
 
+  -- a link in a piece without any of vs
+  pub astray-step : (i : ℕ) → i < length (g .links) → connected vs (map ends (g .links)) ≡ true → connected (linkAt g i .a ∷ vs) (map ends (g .links)) ≡ false → Dropped i
+  astray-step i h whole apart =
+      let all = map ends (g .links) in
+      dropped i h
+      (rw (at i) at (astray-law vs es i z (place h) (label all) (subst (Const (label all)) (sym (joins-of d (g .links))) (label-const all))
+      (λ u m e. eqb-false _ _ (sym (one-more (linkAt g i .a) u vs all whole m) ∙ apart) (sym (e ∙ ap (λ (w : Weighted). label all (w .joins .a)) (at i))))))
+
   leg-joins : (i v w : ℕ) → Joins (ends (linkAt g i)) v w → Joins (getD es i z .joins) v w
   leg-joins i v w j = subst (λ (e : Weighted). Joins (e .joins) v w) (sym (at i)) j
 
@@ -167,6 +182,11 @@ module _ (d : Direction) (g : Network) (valid : Valid g) (vs : List ℕ) where
     end-step ws onto inv o differ ino =
         rw (at i) at (end-law vs es z v w (h .leg .differ) ws onto inv o differ ino i (place (h .place)) (leg-joins i v w (h .leg .joins)) off)
         ∙ ap (λ k. value d (linkAt g i) * k) (sym (over-deleted ws i))
+
+    -- any other end
+    pub loose-step : (List·Memᴰ v vs → ⊥) → Dropped i
+    loose-step out = dropped i (h .place)
+        (rw (at i) at (loose-law vs es z v w (h .leg .differ) out i (place (h .place)) (leg-joins i v w (h .leg .joins)) off))
 
   module _ (i : ℕ) (h : AtSplit g i) (ws : List ℕ) (onto : Onto (min (linkAt g i .a) (linkAt g i .b)) (max (linkAt g i .a) (linkAt g i .b)) vs ws) where
     abbrev sound : List Link
@@ -268,6 +288,13 @@ module _ (d : Direction) (g : Network) (valid : Valid g) (vs : List ℕ) where
       off-both : AllOff v (deleteAt i (deleteAt j es))
       off-both = rw (← others-weighted) (all-off d v others clear)
 
+      -- at a node that is not among vs
+      pub line-step : (List·Memᴰ v vs → ⊥) → AsOne (across v e) (across v f) (λ c. product c (value c e) (value c f))
+      line-step out = one-of-two (across v e) (across v f) (λ c. product c (value c e) (value c f)) _
+          (rw (at i, at j) at (line-law vs es z v (across v e) (first .differ) (across v f) (second .differ) i j order (place there)
+          (leg-joins i v (across v e) (first .joins)) (leg-joins j v (across v f) (second .joins)) off-both out))
+          (λ less most. in-line d p q _ _ M hp hq less most)
+
       -- at a node that is, as both its neighbours are
       pub series-step : List·Memᴰ v vs → List·Memᴰ (across v e) vs → List·Memᴰ (across v f) vs
           → Within d true (2 * S ^ length (g .links)) (S * (factor d p q * over d (without v vs) (as-one (across v e) (across v f) (λ c. series c (value c e) (value c f))))) (S * over d vs (g .links))
@@ -283,24 +310,3 @@ module _ (d : Direction) (g : Network) (valid : Valid g) (vs : List ℕ) where
           weaken d true (le-trans (series-budget d p q A B M hp hq less most) (le-of-eq (ap (λ k. 2 * k) (sym others-power)))) (λ t. t)
           (same d (ap (λ k. S * (factor d p q * k)) (sym (over-joined ws (across v e) (across v f) (λ c. series c (value c e) (value c f))))) (ap (λ k. S * k) (sym law))
           (in-series d p q A B M hp hq less most))
-
--- ---- the rule of document 01
-
-module _ (d : Direction) (g : Network) (valid : Valid g) where
-  abbrev merged : (i : ℕ) → AtSplit g i → Onto (min (linkAt g i .a) (linkAt g i .b)) (max (linkAt g i .a) (linkAt g i .b)) (g .nodes) (without (max (linkAt g i .a) (linkAt g i .b)) (g .nodes))
-  merged i h = onto-kept (g .nodes) _ _ (λ same. h .differ (omega arith)) (smaller-node (g .nodes) (linkAt g i) (proper-at g valid i (h .place)))
-
-  pub reduces : (s : Step) → Fits g s → Reduces view d g (leaves g s)
-  unfolding leaves
-  reduces OneNode h = one-node-step d g valid (g .nodes) h
-  reduces Disconnected h = disconnected-step d g valid (g .nodes) h
-  reduces (Loop i) h = loop-step d g valid (g .nodes) i h
-  reduces (Parallel i j) h = parallel-step d g valid (g .nodes) i j (h .order) (h .place) (h .alike)
-  reduces (End v i) h =
-      let there = across-node (g .nodes) v (linkAt g i) (proper-at g valid i (h .place)) in
-      weaken d true zero-le (λ t. t) (equal d true (ap (λ k. S * k) (sym
-      (end-step d g valid (g .nodes) v i h (without v (g .nodes)) (onto-kept (g .nodes) _ v (h .leg .differ) there) (h .node) _ (h .leg .differ) there))))
-  reduces (Series v i j) h =
-      series-step d g valid (g .nodes) i j (h .order) (h .place) v (h .first) (h .second) (h .others) (h .node)
-      (across-node (g .nodes) v (linkAt g i) (proper-at g valid i (lt-trans (h .order) (h .place)))) (across-node (g .nodes) v (linkAt g j) (proper-at g valid j (h .place)))
-  reduces (Split i) h = split-step d g valid (g .nodes) i h _ (merged i h)

@@ -1,25 +1,21 @@
--- What a step leaves is a valid network with one link less, and its factors and values are at most S.
-use Prim.Native.Nat.{ℕ, suc, _≤_, _<_, zero-le}
+-- What a step leaves is a valid network with one link less.
+use Prim.Native.Nat.{ℕ, suc, _≤_, _<_}
 use mathlib.Core.Path.{_≡_, refl, sym, subst}
 use mathlib.Core.Logic.{⊎-elim}
-use native.Mathlib.Nat.{le-refl}
 use native.Mathlib.Omega.{arith}
 use lib.ListN.{length, set, length-set, length-map}
 use lib.Seq.{lt-length-set}
 use Rattle.rounding.specs.Rounding.{S}
 use Rattle.rounding.specs.declared.Direction.{Direction}
 use Rattle.rounding.specs.declared.Direction.the-variants.{Down, Up}
-use Rattle.rounding.proofs.Operations.{series-range, series-order, factor-range}
 use Rattle.reliability.specs.declared.Link.{Link}
-use Rattle.reliability.specs.declared.Step.{Step}
-use Rattle.reliability.specs.declared.Step.the-variants.{OneNode, Disconnected, Loop, Parallel, End, Series, Split}
 use Rattle.reliability.specs.Networks.{Network, Proper, Valid, ends, linked, linkAt}
-use Rattle.reliability.specs.Rule.{deleted, removed, joined, across, contracted, leaves, settled}
+use Rattle.reliability.specs.Rule.{deleted, removed, joined, across, contracted}
 use Rattle.reliability.proofs.Lists.{length-delete}
-use Rattle.reliability.proofs.Lawful.{Leaves, Sized}
+use Rattle.reliability.proofs.Lawful.{Sized}
 use Rattle.reliability.proofs.States.{Off}
-use Rattle.reliability.proofs.Steps.{Clear, AtEnd, AtSeries, AtSplit, Fits, view}
-use Rattle.reliability.proofs.Validity.{proper-at, across-proper, deleted-valid, joined-valid, removed-valid, contracted-valid, parallel-proper, mem-joined}
+use Rattle.reliability.proofs.Steps.{Clear, AtEnd, AtSeries, AtSplit, view}
+use Rattle.reliability.proofs.Validity.{proper-at, across-proper, deleted-valid, joined-valid, removed-valid, contracted-valid, mem-joined}
 
 -- a valid network of m links
 abbrev pub SizedNetwork : ℕ → Network → Type 0
@@ -60,27 +56,3 @@ module _ (m : ℕ) (g : Network) (h : SizedNetwork (suc m) g) where
   contracted-sized i k =
       let broken = deleted-sized (k .place) in
       record { valid = contracted-valid (deleted i g) (broken .valid) (linkAt g i) (proper (k .place)) (k .differ); size = simp length-map (broken .size) }
-
-  pub left-by : (s : Step) → Fits g s → Leaves (SizedNetwork m) (leaves g s)
-  unfolding leaves
-  left-by OneNode k = le-refl S
-  left-by Disconnected k = zero-le
-  left-by (Loop i) k = deleted-sized (k .place)
-  left-by (Parallel i j) k =
-      joined-sized _ (k .order) (k .place) (parallel-proper (g .nodes) (linkAt g i) (linkAt g j) (proper (omega arith)) (proper (k .place)))
-  left-by (End v i) k = (end-sized v i k, proper (k .place) .range)
-  left-by (Series v i j) k =
-      let p : Proper (g .nodes) (linkAt g i) = proper (omega arith) in
-      let q = proper (k .place) in
-      (across-sized v i j k _ (λ d. series-range d _ _ (p .range d) (q .range d)) (series-order (p .order) (p .range Up) (q .order) (q .range Up)), λ d. factor-range d _ _ (p .range d) (q .range d))
-  left-by (Split i) k = (contracted-sized i k, deleted-sized (k .place), proper (k .place) .range)
-
-pub settled-by : (g : Network) → length (g .links) ≡ 0 → (s : Step) → Fits g s → (k : ℕ) × (k ≤ S) × (leaves g s ≡ settled k)
-unfolding leaves
-settled-by g h OneNode f = (S, le-refl S, refl)
-settled-by g h Disconnected f = (0, zero-le, refl)
-settled-by g h (Loop i) f = absurd (omega arith)
-settled-by g h (Parallel i j) f = absurd (omega arith)
-settled-by g h (End v i) f = absurd (omega arith)
-settled-by g h (Series v i j) f = absurd (omega arith)
-settled-by g h (Split i) f = absurd (omega arith)

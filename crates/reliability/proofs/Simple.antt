@@ -1,8 +1,8 @@
 -- Simple networks: the step that fits them, what each step leaves of them, and how a network is made simple.
 use Prim.Native.Nat.{ℕ, zero, suc, _-_, _≤_, _<_, min, max}
 use mathlib.Core.Path.{_≡_, refl, sym, ap, _∙_, subst}
-use mathlib.Core.List.{List, [], _∷_, map, List·Memᴰ, List·Memᴰ·head, List·Memᴰ·tail, List·Memᴰ·not-nil, List·Memᴰ·eq-of-singleton, Memᴰ·cast, Memᴰ·of-map}
-use mathlib.Core.Bool.{Bool, true, false, cond, true≢false}
+use mathlib.Core.List.{List, [], _∷_, map, List·Memᴰ, List·Memᴰ·head, List·Memᴰ·tail, List·Memᴰ·cases-cons, Memᴰ·cast, Memᴰ·map, Memᴰ·of-map, Memᴰ·append-left, Memᴰ·append-right}
+use mathlib.Core.Bool.{Bool, true, false, cond, not, true≢false}
 use mathlib.Core.Logic.{_⊎_, inl, inr, ⊎-elim}
 use mathlib.Core.Option.{Option, some, none, Option·map}
 use native.Mathlib.Nat.{not-suc-le-zero, le-of-suc-le-suc, le-refl, le-of-eq}
@@ -10,70 +10,67 @@ use native.Mathlib.Omega.{arith}
 use lib.Dec.{eqb, leb}
 use lib.ListN.{length, set, length-set}
 use lib.Seq.{lt-length-set}
-use borrow.Author.Tests.{leb-false, eqb-false, ne-eqb, le-leb, lt-leb}
+use borrow.Author.Tests.{leb-true, eqb-false, ne-eqb, le-leb}
+use Rattle.rounding.specs.Rounding.{S}
+use Rattle.rounding.specs.declared.Direction.{Direction}
 use Rattle.reliability.specs.declared.Link.{Link}
 use Rattle.reliability.specs.declared.Step.{Step}
-use Rattle.reliability.specs.declared.Step.the-variants.{OneNode, Parallel, Series, Split}
-use Rattle.reliability.specs.Networks.{Network, Valid, Ends, ends, linkAt, connected, lastOfEach, pieces, piecesOf}
-use Rattle.reliability.specs.Rule.{isLoop, deleteAt, firstAt, firstPair, lowest, endOf, seriesOf, when, _otherwise_, nextAt, chosen, next, leaves, rest, deleted, removed, joined, contracted, inParallel, inSeries, rename, renamed, across, ready, tree}
-use Rattle.reliability.specs.Simple.{Loopless, Pairless, Connected, Plain, Simple, sideBySide, joinedPairs, unpaired, unlooped, withoutLoops}
+use Rattle.reliability.specs.declared.Step.the-variants.{OneNode, End, Series, Split}
+use Rattle.reliability.specs.Networks.{Network, Valid, ends, linkAt, connected}
+use Rattle.reliability.specs.Rule.{isLoop, deleteAt, firstAt, firstPair, lowest, endOf, when, _otherwise_, Remainder, settled, rest, scaled, branches, deleted, joined, inParallel, rename, renamed, across, ready}
+use Rattle.reliability.specs.Terminals.{Terminals, among, Chosen, has, astray, seriesIn, nextAt, splitAt, next, inLine, endLeft, seriesLeft, soundLeft, brokenLeft, factored, leaves, tree}
+use Rattle.reliability.specs.Simple.{Loopless, Pairless, anchors, Connected, Plain, Simple, sideBySide, joinedPairs, unpaired, dropping, withoutLoops}
 use Rattle.reliability.proofs.Lists.{by-eqb, length-delete, mem-delete, getD-mem, getD-delete}
-use Rattle.reliability.proofs.Pieces.{connected-pieces, first-parted}
+use Rattle.reliability.proofs.Connection.{connected-within}
 use Rattle.reliability.proofs.Searches.{Answers, Holds, Fails, first-at, nth, none-found, Pair, Distinct, first-pair, no-pair, distinct-delete}
 use Rattle.reliability.proofs.States.{Joins}
-use Rattle.reliability.proofs.Validity.{mem-joined, larger-smaller, proper-at, deleted-valid, joined-valid, removed-valid, contracted-valid, parallel-proper}
-use Rattle.reliability.proofs.Steps.{AtPair, AtEnd, AtSeries, AtSplit, joins-alike, at-pair, inTurn, next-by, step-by-connection}
-use Rattle.reliability.proofs.Remainders.{left-by}
-use Rattle.reliability.proofs.Unrolled.{Below, tree-rest, below-rest}
-use Rattle.reliability.proofs.Separate.{separate-tree}
+use Rattle.reliability.proofs.Validity.{mem-joined, larger-smaller, proper-at, joined-valid, parallel-proper}
+use Rattle.reliability.proofs.Lawful.{Leaves}
+use Rattle.reliability.proofs.Steps.{AtPair, AtEnd, AtSeries, AtSplit, joins-alike, at-pair}
+use Rattle.reliability.proofs.TerminalSteps.{AtSeriesIn, Fits, next-by, SizedTerminals, left-in}
+use Rattle.reliability.proofs.Unrolled.{Below, tree-settled, tree-rest, below-rest}
+use Rattle.reliability.proofs.Dropping.{mem-dropping, dropping-none, dropping-delete, dropped-none}
 use Rattle.reliability.proofs.Paths.{pair-connected, end-connected, series-connected, contracted-connected}
 
 -- ---- connected
 
--- connected: in at most one piece
-pub connected-pieces-few : (g : Network) → connected (g .nodes) (map ends (g .links)) ≡ leb (piecesOf g) 1
-unfolding connected lastOfEach
-connected-pieces-few g = go (g .nodes)
-  where
-    t : List Ends
-    t = map ends (g .links)
+module _ (g : Terminals) (connected-all : Connected g) where
+  fewer-nodes : (vs : List ℕ) → ((u : ℕ) → List·Memᴰ u vs → List·Memᴰ u (anchors g)) → connected vs (map ends (g .network .links)) ≡ true
+  fewer-nodes vs h = connected-within (anchors g) vs _ _ h (λ e m. m) connected-all
 
-    same-test : (l : ℕ) → 0 < l → eqb l 1 ≡ leb l 1
-    same-test l h = by-eqb (λ b. b ≡ leb l 1) l 1 (λ z. sym (le-leb l 1 (omega arith))) (λ n. sym (lt-leb l 1 (omega arith)))
+  pub chosen-connected : connected (g .chosen) (map ends (g .network .links)) ≡ true
+  chosen-connected = fewer-nodes (g .chosen) (λ u m. Memᴰ·append-left _ m)
 
-    go : (vs : List ℕ) → connected vs t ≡ leb (pieces vs t) 1
-    go [] = refl
-    go (v ∷ vs) = connected-pieces t v vs ∙ same-test (pieces (v ∷ vs) t) (omega (arith, first-parted t v vs))
-
--- a network that is not connected: its figure is 0, without a split
-pub apart-tree : (g : Network) → Valid g → connected (g .nodes) (map ends (g .links)) ≡ false → tree g ≡ ready (λ d. 0)
-apart-tree g valid apart = separate-tree g valid (leb-false (piecesOf g) 1 (sym (connected-pieces-few g) ∙ apart))
+  pub none-astray : firstAt (astray g) (g .network .links) ≡ none
+  none-astray = none-found (astray g) (g .network .links) .1 (λ e m. ap not (fewer-nodes (e .a ∷ g .chosen)
+      (λ u n. ⊎-elim (λ (q : u ≡ e .a). Memᴰ·cast q (Memᴰ·append-right (g .chosen) (Memᴰ·map (λ (f : Link). f .a) m))) (λ k. Memᴰ·append-left _ k) (List·Memᴰ·cases-cons n))))
 
 -- ---- which step fits
 
 -- the first loop is deleted
-module _ (g : Network) (valid : Valid g) (i : ℕ) (first : firstAt isLoop (g .links) ≡ some i) where
-  loop-leaves : leaves g (next g) ≡ rest (deleted i g)
+module _ (g : Terminals) (valid : Chosen g) (i : ℕ) (first : firstAt isLoop (g .network .links) ≡ some i) where
+  loop-leaves : leaves g (next g) ≡ rest (brokenLeft i g)
   unfolding leaves
-  loop-leaves = ap (leaves g) (next-by (chosen g) g (some i) first _ refl _ refl _ refl _ refl _ refl)
+  loop-leaves = ap (leaves g) (next-by (splitAt g) g (some i) first _ refl _ refl _ refl _ refl _ refl _ refl)
 
-  pub loop-below : Below g (deleted i g)
-  loop-below = below-rest g valid (deleted i g) loop-leaves
+  pub loop-below : Below g (brokenLeft i g)
+  loop-below = below-rest g valid (brokenLeft i g) loop-leaves
 
-  pub loop-tree : tree g ≡ tree (deleted i g)
-  loop-tree = tree-rest g valid (deleted i g) loop-leaves
+  pub loop-tree : tree g ≡ tree (brokenLeft i g)
+  loop-tree = tree-rest g valid (brokenLeft i g) loop-leaves
+
+-- one chosen node, or none: its figure is S
+pub one-tree : (g : Terminals) → Chosen g → Loopless (g .network) → length (g .chosen) ≤ 1 → tree g ≡ ready (λ d. S)
+unfolding leaves
+one-tree g valid loopless one =
+    tree-settled g valid S (ap (leaves g) (next-by (splitAt g) g none loopless true (le-leb (length (g .chosen)) 1 one) _ refl _ refl _ refl _ refl _ refl))
 
 -- no step but 2, 5, 6 and 7 fits a simple network
-pub simple-next : (g : Network) → Simple g → (k : ℕ) → nextAt k g
-    ≡ (when (leb (length (g .nodes)) 1) OneNode otherwise lowest endOf (g .links) (g .nodes) otherwise lowest seriesOf (g .links) (g .nodes) otherwise Split k)
-simple-next g simple k = step-by-connection k g ∙ told none (simple .plain .loopless) true (simple .plain .connected) none (simple .pairless)
-  where
-    first : Option ℕ → Bool → Option (ℕ × ℕ) → Step
-    first loop whole pair = inTurn loop (leb (length (g .nodes)) 1) whole pair (lowest endOf (g .links) (g .nodes)) (lowest seriesOf (g .links) (g .nodes)) k
-
-    told : (loop : Option ℕ) → firstAt isLoop (g .links) ≡ loop → (whole : Bool) → connected (g .nodes) (map ends (g .links)) ≡ whole → (pair : Option (ℕ × ℕ)) → firstPair (g .links) ≡ pair
-        → first (firstAt isLoop (g .links)) (connected (g .nodes) (map ends (g .links))) (firstPair (g .links)) ≡ first loop whole pair
-    told loop l whole w pair p = rw (l, w, p)
+pub simple-next : (g : Terminals) → Simple g → (k : ℕ) → nextAt k g
+    ≡ (when (leb (length (g .chosen)) 1) OneNode otherwise lowest endOf (g .network .links) (g .network .nodes) otherwise lowest (seriesIn g) (g .network .links) (g .network .nodes) otherwise Split k)
+simple-next g simple k =
+    let whole = simple .plain .connected in
+    next-by k g none (simple .plain .loopless) _ refl true (chosen-connected g whole) none (none-astray g whole) none (simple .pairless) _ refl _ refl
 
 -- ---- what each step leaves of a simple network
 
@@ -100,83 +97,108 @@ module _ (g : Network) (loopless : Loopless g) where
   no-loop : (e : Link) → List·Memᴰ e (g .links) → isLoop e ≡ false
   no-loop = none-found isLoop (g .links) .0 loopless
 
-  deleted-loopless : (i : ℕ) → Loopless (deleted i g)
+  pub deleted-loopless : (i : ℕ) → Loopless (deleted i g)
   deleted-loopless i = none-found isLoop (deleteAt i (g .links)) .1 (λ e m. no-loop e (mem-delete i (g .links) m))
+
+  pub deleted-pairless : Pairless g → (i : ℕ) → Pairless (deleted i g)
+  deleted-pairless pairless i = no-pair (deleteAt i (g .links)) .1 (distinct-delete (g .links) i (no-pair (g .links) .0 pairless))
 
   joined-loopless : (i j : ℕ) (e : Link) → i < j → isLoop e ≡ false → Loopless (joined i j e g)
   joined-loopless i j e order h = none-found isLoop (joined i j e g .links) .1 (λ f m.
       ⊎-elim (λ (q : f ≡ e). ap isLoop q ∙ h) (λ n. no-loop f (mem-delete j (g .links) (mem-delete i (deleteAt j (g .links)) n))) (mem-joined (g .links) i j order m))
 
-module _ (g : Network) (simple : Simple g) where
+module _ (g : Terminals) (simple : Simple g) where
   abbrev plain : Plain g
   plain = simple .plain
 
-  distinct : Distinct (g .links)
-  distinct = no-pair (g .links) .0 (simple .pairless)
+  abbrev n : Network
+  n = g .network
 
-  deleted-pairless : (i : ℕ) → Pairless (deleted i g)
-  deleted-pairless i = no-pair (deleteAt i (g .links)) .1 (distinct-delete (g .links) i distinct)
+  distinct : Distinct (n .links)
+  distinct = no-pair (n .links) .0 (simple .pairless)
 
-  pub deleted-simple : (i : ℕ) → Connected (deleted i g) → Simple (deleted i g)
-  deleted-simple i c = record {
-    plain = record { valid = deleted-valid g (plain .valid) i; loopless = deleted-loopless g (plain .loopless) i; connected = c };
-    pairless = deleted-pairless i;
-  }
+  -- what a step leaves is valid
+  left : (s : Step) → Fits g s → 0 < length (n .links) → Leaves Chosen (leaves g s)
+  left s fits here =
+      let m = length (n .links) - 1 in
+      weaker m (leaves g s) (left-in m g (record { valid = plain .valid; size = omega arith }) s fits)
+    where
+      weaker : (m : ℕ) (r : Remainder Terminals) → Leaves (SizedTerminals m) r → Leaves Chosen r
+      weaker m (settled k) l = l
+      weaker m (rest h) l = l .valid
+      weaker m (scaled k h) l = (l .0 .valid, l .1)
+      weaker m (branches e x y) l = (l .0 .valid, l .1 .valid, l .2)
 
-  pub end-simple : (v i : ℕ) → AtEnd g v i → Simple (removed v (deleted i g))
-  end-simple v i h = record {
+  -- of a node that goes
+  pub factored-valid : (b : Bool) (k : Direction → ℕ) (h : Terminals) → Leaves Chosen (factored b k h) → Chosen h
+  factored-valid true k h l = l .0
+  factored-valid false k h l = l
+
+  pub end-simple : (v i : ℕ) → AtEnd n v i → 1 < length (g .chosen) → Simple (endLeft v i g)
+  unfolding leaves
+  end-simple v i h two = record {
     plain = record {
-      valid = removed-valid (deleted i g) (deleted-valid g (plain .valid) i) v (h .others);
-      loopless = deleted-loopless g (plain .loopless) i;
-      connected = end-connected g (plain .valid) v i h (plain .connected);
+      valid = factored-valid (has v (g .chosen)) _ (endLeft v i g) (left (End v i) (h, two) (omega (arith, h .place)));
+      loopless = deleted-loopless n (plain .loopless) i;
+      connected = end-connected g v i h (plain .connected);
     };
-    pairless = deleted-pairless i;
+    pairless = deleted-pairless n (plain .loopless) (simple .pairless) i;
   }
 
   -- only a partner of link i would become a loop
-  module _ (i : ℕ) (h : AtSplit g i) where
+  module _ (i : ℕ) (h : AtSplit n i) (two : 1 < length (g .chosen)) where
     abbrev keep : ℕ
-    keep = min (linkAt g i .a) (linkAt g i .b)
+    keep = min (linkAt n i .a) (linkAt n i .b)
 
     abbrev gone : ℕ
-    gone = max (linkAt g i .a) (linkAt g i .b)
+    gone = max (linkAt n i .a) (linkAt n i .b)
 
-    stay-two : (e : Link) → List·Memᴰ e (deleteAt i (g .links)) → rename keep gone (e .a) ≡ rename keep gone (e .b) → ⊥
+    stay-two : (e : Link) → List·Memᴰ e (deleteAt i (n .links)) → rename keep gone (e .a) ≡ rename keep gone (e .b) → ⊥
     stay-two e m same = ⊎-elim
-        (eqb-false (e .a) (e .b) (no-loop g (plain .loopless) e (mem-delete i (g .links) m)))
-        (distinct-at (g .links) i distinct (h .place) m gone keep (larger-smaller (linkAt g i)))
+        (eqb-false (e .a) (e .b) (no-loop n (plain .loopless) e (mem-delete i (n .links) m)))
+        (distinct-at (n .links) i distinct (h .place) m gone keep (larger-smaller (linkAt n i)))
         (made-one keep gone (e .a) (e .b) same)
 
-    pub contracted-plain : Plain (contracted (linkAt g i) (deleted i g))
+    pub contracted-plain : Plain (soundLeft i g)
+    unfolding leaves
     contracted-plain = record {
-      valid = contracted-valid (deleted i g) (deleted-valid g (plain .valid) i) (linkAt g i) (proper-at g (plain .valid) i (h .place)) (h .differ);
-      loopless = none-found isLoop (contracted (linkAt g i) (deleted i g) .links) .1 (λ f m.
-          let (e, n, q) = Memᴰ·of-map (renamed keep gone) (deleteAt i (g .links)) m in
+      valid = left (Split i) (h, two) (omega (arith, h .place)) .0;
+      loopless = none-found isLoop (soundLeft i g .network .links) .1 (λ f m.
+          let (e, n, q) = Memᴰ·of-map (renamed keep gone) (deleteAt i (n .links)) m in
           ap isLoop (sym q) ∙ ne-eqb (rename keep gone (e .a)) (rename keep gone (e .b)) (stay-two e n));
-      connected = contracted-connected g (plain .valid) i h (plain .connected);
+      connected = contracted-connected g i h (plain .connected);
     }
+
+    pub deleted-valid : Chosen (brokenLeft i g)
+    unfolding leaves
+    deleted-valid = left (Split i) (h, two) (omega (arith, h .place)) .1
 
   -- the neighbours of v differ: links i and j are no pair
-  module _ (v i j : ℕ) (h : AtSeries g v i j) where
-    neighbours-differ : across v (linkAt g i) ≡ across v (linkAt g j) → ⊥
-    neighbours-differ same =
-        let there = getD-mem {i = i} (deleteAt j (g .links)) _ (omega (arith, h .order, length-delete (g .links) (h .place))) in
-        distinct-at (g .links) j distinct (h .place) (Memᴰ·cast (sym (getD-delete (g .links) i j _ (h .order))) there) v (across v (linkAt g j)) (h .second .joins) (rw same at (h .first .joins))
+  module _ (v i j : ℕ) (at : AtSeriesIn g v i j) where
+    abbrev h : AtSeries n v i j
+    h = at .two
 
-    pub series-plain : Plain (removed v (joined i j (inSeries v (linkAt g i) (linkAt g j)) g))
+    neighbours-differ : across v (linkAt n i) ≡ across v (linkAt n j) → ⊥
+    neighbours-differ same =
+        let there = getD-mem {i = i} (deleteAt j (n .links)) _ (omega (arith, h .order, length-delete (n .links) (h .place))) in
+        distinct-at (n .links) j distinct (h .place) (Memᴰ·cast (sym (getD-delete (n .links) i j _ (h .order))) there) v (across v (linkAt n j)) (h .second .joins) (rw same at (h .first .joins))
+
+    line-ends : (b : Bool) → (inLine b v (linkAt n i) (linkAt n j) .a ≡ across v (linkAt n i)) × (inLine b v (linkAt n i) (linkAt n j) .b ≡ across v (linkAt n j))
+    line-ends true = (refl, refl)
+    line-ends false = (refl, refl)
+
+    pub series-plain : Plain (seriesLeft v i j g)
     unfolding leaves
-    series-plain = record {
-      valid = left-by (length (g .links) - 1) g (record { valid = plain .valid; size = omega (arith, h .place) }) (Series v i j) h .0 .valid;
-      loopless = joined-loopless g (plain .loopless) i j (inSeries v (linkAt g i) (linkAt g j)) (h .order) (ne-eqb (across v (linkAt g i)) (across v (linkAt g j)) neighbours-differ);
-      connected = series-connected g (plain .valid) v i j h (plain .connected);
-    }
+    series-plain =
+        let e = line-ends (has v (g .chosen)) in
+        let new = inLine (has v (g .chosen)) v (linkAt n i) (linkAt n j) in
+        record {
+          valid = factored-valid (has v (g .chosen)) _ (seriesLeft v i j g) (left (Series v i j) at (omega (arith, h .place)));
+          loopless = joined-loopless n (plain .loopless) i j new (h .order) (ne-eqb (new .a) (new .b) (λ q. neighbours-differ (sym (e .0) ∙ q ∙ e .1)));
+          connected = series-connected g v i j h new (e .0) (e .1) (plain .connected);
+        }
 
 -- ---- step 4 as often as it fits
-
--- step 4 leaves links i and j as one
-pair-leaves : (g : Network) (i j : ℕ) → leaves g (Parallel i j) ≡ rest (sideBySide i j g)
-unfolding leaves
-pair-leaves g i j = refl
 
 joined-none : (m : ℕ) (g : Network) → Pairless g → joinedPairs m g ≡ g
 unfolding joinedPairs
@@ -243,99 +265,86 @@ unpaired-fewer = by-pairs (λ g. length (unpaired g .links) ≤ length (g .links
     (λ g pairless. le-of-eq (ap (λ (h : Network). length (h .links)) (unpaired-none g pairless)))
     (λ g i j pair fewer. omega (arith, fewer, pair-fewer g i j pair, ap (λ (h : Network). length (h .links)) (unpaired-here g i j pair)))
 
--- two nodes that differ are two nodes at least
-two-nodes : {a b : ℕ} (vs : List ℕ) → List·Memᴰ a vs → List·Memᴰ b vs → (a ≡ b → ⊥) → 1 < length vs
-two-nodes [] m n differ = absurd (List·Memᴰ·not-nil m)
-two-nodes (v ∷ []) m n differ = absurd (differ (List·Memᴰ·eq-of-singleton m ∙ sym (List·Memᴰ·eq-of-singleton n)))
-two-nodes (v ∷ (w ∷ vs)) m n differ = omega arith
-
-module _ (g : Network) (plain : Plain g) (i j : ℕ) (pair : firstPair (g .links) ≡ some (i, j)) where
-  first-place : i < length (g .links)
-  first-place = let at = pair-at g i j pair in omega arith
-
-  not-a-loop : isLoop (linkAt g i) ≡ false
-  not-a-loop = no-loop g (plain .loopless) (linkAt g i) (getD-mem (g .links) _ first-place)
-
-  pub pair-plain : Plain (sideBySide i j g)
-  pair-plain =
+module _ (g : Network) (loopless : Loopless g) (i j : ℕ) (pair : firstPair (g .links) ≡ some (i, j)) where
+  pub pair-loopless : Loopless (sideBySide i j g)
+  pair-loopless =
       let at = pair-at g i j pair in
+      joined-loopless g loopless i j (inParallel (linkAt g i) (linkAt g j)) (at .order) (no-loop g loopless (linkAt g i) (getD-mem (g .links) _ (omega (arith, at .order, at .place))))
+
+module _ (g : Terminals) (plain : Plain g) (i j : ℕ) (pair : firstPair (g .network .links) ≡ some (i, j)) where
+  abbrev as-one : Terminals
+  as-one = among (g .chosen) (sideBySide i j (g .network))
+
+  pair-plain : Plain as-one
+  pair-plain =
+      let valid = plain .valid in
       record {
-        valid = pair-valid g (plain .valid) i j pair;
-        loopless = joined-loopless g (plain .loopless) i j (inParallel (linkAt g i) (linkAt g j)) (at .order) not-a-loop;
-        connected = pair-connected g i j at (plain .connected);
+        valid = record { valid = pair-valid (g .network) (valid .valid) i j pair; ascending = valid .ascending; nodes = valid .nodes };
+        loopless = pair-loopless (g .network) (plain .loopless) i j pair;
+        connected = pair-connected g i j (pair-at (g .network) i j pair) (plain .connected);
       }
 
-  -- step 4 fits: there are two nodes
-  pair-next : next g ≡ Parallel i j
-  pair-next =
-      let p = proper-at g (plain .valid) i first-place in
-      let two = two-nodes (g .nodes) (p .a-node) (p .b-node) (eqb-false (linkAt g i .a) (linkAt g i .b) not-a-loop) in
-      step-by-connection (chosen g) g ∙ rw (plain .loopless, lt-leb (length (g .nodes)) 1 two, plain .connected, pair)
+  -- step 4 fits, or one chosen node is left
+  pair-tree : tree g ≡ tree as-one
+  unfolding leaves
+  pair-tree = go (leb (length (g .chosen)) 1) refl
+    where
+      whole : Connected g
+      whole = plain .connected
 
-  pub pair-tree : tree g ≡ tree (sideBySide i j g)
-  pair-tree = tree-rest g (plain .valid) (sideBySide i j g) (ap (leaves g) pair-next ∙ pair-leaves g i j)
+      go : (one : Bool) → leb (length (g .chosen)) 1 ≡ one → tree g ≡ tree as-one
+      go true o =
+          let one = leb-true (length (g .chosen)) 1 o in
+          one-tree g (plain .valid) (plain .loopless) one ∙ sym (one-tree as-one (pair-plain .valid) (pair-plain .loopless) one)
+      go false o = tree-rest g (plain .valid) as-one
+          (ap (leaves g) (next-by (splitAt g) g none (plain .loopless) false o true (chosen-connected g whole) none (none-astray g whole) (some (i, j)) pair _ refl _ refl))
 
-pub unpaired-simple : (g : Network) → Plain g → Simple (unpaired g)
-unpaired-simple = by-pairs (λ g. Plain g → Simple (unpaired g))
-    (λ g pairless plain. subst Simple (sym (unpaired-none g pairless)) (record { plain = plain; pairless = pairless }))
-    (λ g i j pair later plain. subst Simple (sym (unpaired-here g i j pair)) (later (pair-plain g plain i j pair)))
+module _ (cs : List ℕ) where
+  pub unpaired-simple : (g : Network) → Plain (among cs g) → Simple (among cs (unpaired g))
+  unpaired-simple = by-pairs (λ g. Plain (among cs g) → Simple (among cs (unpaired g)))
+      (λ g pairless plain. subst (λ (h : Network). Simple (among cs h)) (sym (unpaired-none g pairless)) (record { plain = plain; pairless = pairless }))
+      (λ g i j pair later plain. subst (λ (h : Network). Simple (among cs h)) (sym (unpaired-here g i j pair)) (later (pair-plain (among cs g) plain i j pair)))
 
-pub unpaired-tree : (g : Network) → Plain g → tree g ≡ tree (unpaired g)
-unpaired-tree = by-pairs (λ g. Plain g → tree g ≡ tree (unpaired g))
-    (λ g pairless plain. ap tree (sym (unpaired-none g pairless)))
-    (λ g i j pair later plain. pair-tree g plain i j pair ∙ later (pair-plain g plain i j pair) ∙ ap tree (sym (unpaired-here g i j pair)))
+  pub unpaired-tree : (g : Network) → Plain (among cs g) → tree (among cs g) ≡ tree (among cs (unpaired g))
+  unpaired-tree = by-pairs (λ g. Plain (among cs g) → tree (among cs g) ≡ tree (among cs (unpaired g)))
+      (λ g pairless plain. ap (λ (h : Network). tree (among cs h)) (sym (unpaired-none g pairless)))
+      (λ g i j pair later plain. pair-tree (among cs g) plain i j pair ∙ later (pair-plain (among cs g) plain i j pair) ∙ ap (λ (h : Network). tree (among cs h)) (sym (unpaired-here g i j pair)))
 
 -- ---- without loops
 
--- by whether a link is a loop
-by-loop : (P : List Link → Type 0) (e : Link) (es : List Link) (b : Bool) → isLoop e ≡ b → P (elim b [ true ↦ unlooped es | false ↦ e ∷ unlooped es ]) → P (unlooped (e ∷ es))
-unfolding unlooped
-by-loop P e es b h = subst (λ (t : Bool). P (elim t [ true ↦ unlooped es | false ↦ e ∷ unlooped es ])) (sym h)
-
-unlooped-none : (es : List Link) → ((e : Link) → List·Memᴰ e es → isLoop e ≡ false) → unlooped es ≡ es
-unfolding unlooped
-unlooped-none [] h = refl
-unlooped-none (e ∷ es) h = by-loop (λ r. r ≡ e ∷ es) e es false (h e (List·Memᴰ·head refl)) (ap (λ r. e ∷ r) (unlooped-none es (λ f m. h f (List·Memᴰ·tail m))))
-
-unlooped-delete : (es : List Link) (i : ℕ) → isLoop (nth es i) ≡ true → i < length es → unlooped (deleteAt i es) ≡ unlooped es
-unfolding unlooped deleteAt
-unlooped-delete [] i h k = refl
-unlooped-delete (e ∷ es) zero h k = by-loop (λ r. unlooped es ≡ r) e es true h refl
-unlooped-delete (e ∷ es) (suc i) h k =
-    let later = unlooped-delete es i h (le-of-suc-le-suc k) in
-    ap (λ r. elim (isLoop e) as (λ x. List Link) [ true ↦ r | false ↦ e ∷ r ]) later
-
 pub loops-gone : (g : Network) → Loopless g → g ≡ withoutLoops g
-loops-gone g h = λ i. record { nodes = g .nodes; links = sym (unlooped-none (g .links) (none-found isLoop (g .links) .0 h)) i }
+loops-gone g h = λ i. record { nodes = g .nodes; links = dropping-none isLoop (g .links) (none-found isLoop (g .links) .0 h) i }
 
 pub loop-gone : (g : Network) (i : ℕ) → firstAt isLoop (g .links) ≡ some i → withoutLoops (deleted i g) ≡ withoutLoops g
 loop-gone g i h =
     let at = subst (Answers (Holds isLoop (g .links)) (Fails isLoop (g .links))) h (first-at isLoop (g .links)) in
-    λ k. record { nodes = g .nodes; links = unlooped-delete (g .links) i (at .test) (at .place) k }
+    λ k. record { nodes = g .nodes; links = dropping-delete isLoop isLoop (λ f. refl) (g .links) i (at .place) (at .test) k }
 
 pub unlooped-loopless : (g : Network) → Loopless (withoutLoops g)
-unfolding firstAt unlooped
-unlooped-loopless g = go (g .links)
-  where
-    go : (es : List Link) → firstAt isLoop (unlooped es) ≡ none
-    go [] = refl
-    go (e ∷ es) = by (isLoop e) refl (go es)
-      where
-        by : (b : Bool) → isLoop e ≡ b → firstAt isLoop (unlooped es) ≡ none → firstAt isLoop (elim b [ true ↦ unlooped es | false ↦ e ∷ unlooped es ]) ≡ none
-        by true h k = k
-        by false h k = ap (λ (t : Bool). elim t as (λ x. Option ℕ) [ true ↦ some zero | false ↦ Option·map suc (firstAt isLoop (unlooped es)) ]) h ∙ ap (Option·map suc) k
+unlooped-loopless g = dropped-none isLoop (g .links)
 
 -- it is worked alike
-unlooped-by : (g : Network) → Valid g → ((h : Network) → Below g h → tree h ≡ tree (withoutLoops h)) → tree g ≡ tree (withoutLoops g)
-unlooped-by g valid fewer = go (firstAt isLoop (g .links)) refl
-  where
-    go : (loop : Option ℕ) → firstAt isLoop (g .links) ≡ loop → tree g ≡ tree (withoutLoops g)
-    go none h = ap tree (loops-gone g h)
-    go (some i) h = loop-tree g valid i h ∙ fewer (deleted i g) (loop-below g valid i h) ∙ ap tree (loop-gone g i h)
+abbrev unlooped : Terminals → Terminals
+unlooped g = among (g .chosen) (withoutLoops (g .network))
 
-unlooped-links : (m : ℕ) (g : Network) → Valid g → length (g .links) ≤ m → tree g ≡ tree (withoutLoops g)
+unlooped-by : (g : Terminals) → Chosen g → ((h : Terminals) → Below g h → tree h ≡ tree (unlooped h)) → tree g ≡ tree (unlooped g)
+unlooped-by g valid fewer = go (firstAt isLoop (g .network .links)) refl
+  where
+    go : (loop : Option ℕ) → firstAt isLoop (g .network .links) ≡ loop → tree g ≡ tree (unlooped g)
+    go none h = ap (λ (k : Network). tree (among (g .chosen) k)) (loops-gone (g .network) h)
+    go (some i) h = loop-tree g valid i h ∙ fewer (brokenLeft i g) (loop-below g valid i h) ∙ ap (λ (k : Network). tree (among (g .chosen) k)) (loop-gone (g .network) i h)
+
+-- and it is valid
+pub unlooped-chosen : (g : Terminals) → Chosen g → Chosen (among (g .chosen) (withoutLoops (g .network)))
+unlooped-chosen g valid = record {
+  valid = record { ascending = valid .valid .ascending; proper = λ e m. valid .valid .proper e (mem-dropping isLoop (g .network .links) m) };
+  ascending = valid .ascending;
+  nodes = valid .nodes;
+}
+
+unlooped-links : (m : ℕ) (g : Terminals) → Chosen g → length (g .network .links) ≤ m → tree g ≡ tree (unlooped g)
 unlooped-links zero g valid few = unlooped-by g valid (λ h b. let k = b .fewer in absurd (omega arith))
 unlooped-links (suc m) g valid few = unlooped-by g valid (λ h b. let k = b .fewer in unlooped-links m h (b .valid) (omega arith))
 
-pub unlooped-tree : (g : Network) → Valid g → tree g ≡ tree (withoutLoops g)
-unlooped-tree g valid = unlooped-links (length (g .links)) g valid (le-refl (length (g .links)))
+pub unlooped-tree : (g : Terminals) → Chosen g → tree g ≡ tree (among (g .chosen) (withoutLoops (g .network)))
+unlooped-tree g valid = unlooped-links (length (g .network .links)) g valid (le-refl (length (g .network .links)))

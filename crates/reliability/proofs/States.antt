@@ -1,7 +1,7 @@
 -- Sums over the states of the links: what each reduction does to the sum.
 use Prim.Native.Nat.{ℕ, zero, suc, _+_, _*_, _≤_, _<_, zero-le}
 use mathlib.Core.Path.{_≡_, refl, sym, ap, ap₂, _∙_}
-use mathlib.Core.List.{List, [], _∷_, map, List·Memᴰ, List·Memᴰ·head, List·Memᴰ·tail}
+use mathlib.Core.List.{List, [], _∷_, map, List·Memᴰ, List·Memᴰ·head, List·Memᴰ·tail, Memᴰ·cast}
 use mathlib.Core.Bool.{Bool, true, false, cond}
 use mathlib.Core.Logic.{_↔_, _⊎_, inl, inr, Iff·trans, Iff·symm}
 use lib.Dec.{eqb}
@@ -96,6 +96,9 @@ none-connects vs es h = go es [] (λ χ c. (c, tt))
 four : (x y u v p q r s : ℕ) → u * (x * p + y * q) + v * (x * r + y * s) ≡ x * (u * p + v * r) + y * (u * q + v * s)
 four x y u v p q r s = simp ring
 
+in-line : (x y u v A B : ℕ) → u * (x * A + y * B) + v * (x * B + y * B) ≡ x * u * A + (x * v + y * u + y * v) * B
+in-line x y u v A B = simp ring
+
 -- any link may come first
 pub front : (vs : List ℕ) (es : List Weighted) (t : List Ends) (i : ℕ) (z : Weighted) → i < length es
     → sum vs es t ≡ getD es i z .sound * sum vs (deleteAt i es) (getD es i z .joins ∷ t) + getD es i z .broken * sum vs (deleteAt i es) t
@@ -184,6 +187,13 @@ onto-kept vs keep gone differ ink = record {
   from = λ w m. let k = mem-without gone w vs m in (w, k .0, rename-other keep gone (k .1));
 }
 
+-- where gone is not among them, they stay
+pub onto-same : (vs : List ℕ) (keep gone : ℕ) → (List·Memᴰ gone vs → ⊥) → Onto keep gone vs vs
+onto-same vs keep gone out = record { into = λ v m. Memᴰ·cast (same v m) m; from = λ w m. (w, m, same w m) }
+  where
+    same : (v : ℕ) → List·Memᴰ v vs → rename keep gone v ≡ v
+    same v m = rename-other keep gone (λ e. out (Memᴰ·cast (sym e) m))
+
 module _ (vs ws : List ℕ) (keep gone : ℕ) (differ : keep ≡ gone → ⊥) (onto : Onto keep gone vs ws) where
   -- s is t with gone renamed to keep: the colourings of s are those of t, and t gives keep and gone one colour
   abbrev Contracts : List Ends → List Ends → Type 0
@@ -264,6 +274,13 @@ module _ (vs : List ℕ) (es : List Weighted) (z : Weighted) (v w : ℕ) (differ
       ∙ rw (pendant vs ws w v differ onto (deleteAt i es) off (getD es i z .joins) j, lone vs (deleteAt i es) v o od inv ino off)
       (simp (mul-zero, add-zero))
 
+  -- step 5: any other end is of no account
+  pub loose-law : (List·Memᴰ v vs → ⊥) → (i : ℕ) → i < length es → Joins (getD es i z .joins) v w → AllOff v (deleteAt i es)
+      → sum vs es [] ≡ (getD es i z .sound + getD es i z .broken) * sum vs (deleteAt i es) []
+  loose-law out i h j off =
+      front vs es [] i z h
+      ∙ rw (pendant vs vs w v differ (onto-same vs w v out) (deleteAt i es) off (getD es i z .joins) j) (sym (add-mul (getD es i z .sound) (getD es i z .broken) _))
+
   module _ (u : ℕ) (ud : u ≡ v → ⊥) (i j : ℕ) (h : i < j) (k : j < length es) (p : Joins (getD es i z .joins) v w) (q : Joins (getD es j z .joins) v u)
       (off : AllOff v (deleteAt i (deleteAt j es))) where
     abbrev first : Weighted
@@ -286,6 +303,60 @@ module _ (vs : List ℕ) (es : List Weighted) (z : Weighted) (v w : ℕ) (differ
           pendant vs (without v vs) w v differ (onto-kept vs w v differ inw) others off (first .joins) p,
           lone vs others v w differ inv inw off,
         ) (simp (mul-zero, add-zero, ring))
+
+    -- step 6: at a node that need not hang together they are one, which is sound where both are
+    pub line-law : (List·Memᴰ v vs → ⊥)
+        → sum vs es [] ≡ first .sound * second .sound * sum vs others (record { a = w; b = u } ∷ []) + (first .sound * second .broken + first .broken * second .sound + first .broken * second .broken) * sum vs others []
+    line-law out =
+        front-two vs es i j z h k
+        ∙ rw (
+          shrunk vs vs w v differ (onto-same vs w v out) others off (first .joins ∷ second .joins ∷ []) (record { a = w; b = u } ∷ []) (contracts-two vs vs w v differ (onto-same vs w v out) u ud (first .joins) (second .joins) p q),
+          pendant vs vs u v ud (onto-same vs u v out) others off (second .joins) q,
+          pendant vs vs w v differ (onto-same vs w v out) others off (first .joins) p,
+        ) (in-line (first .sound) (first .broken) (second .sound) (second .broken) _ _)
+
+-- step 3: a link in a piece without any of the nodes vs is of no account; σ tells the pieces apart
+module _ (vs : List ℕ) (σ : ℕ → ℕ) (e : Ends) (here : σ (e .a) ≡ σ (e .b)) (out : (u : ℕ) → List·Memᴰ u vs → σ u ≡ σ (e .a) → ⊥) where
+  -- the piece of e in one colour, all else as in χ
+  abbrev apart : (ℕ → ℕ) → ℕ → ℕ
+  apart χ v = cond (eqb (σ v) (σ (e .a))) 0 (χ v)
+
+  const-apart : (χ : ℕ → ℕ) (t : List Ends) → Const σ t → Const χ t → Const (apart χ) t
+  const-apart χ [] s c = tt
+  const-apart χ (f ∷ t) s c = (ap₂ (λ x y. cond (eqb x (σ (e .a))) 0 y) (s .0) (c .0), const-apart χ t (s .1) (c .1))
+
+  pub idle-connected : (t : List Ends) → Const σ t → connected vs (e ∷ t) ≡ connected vs t
+  idle-connected t s = connected-eq vs vs (e ∷ t) t
+      (λ conn χ c u v mu mv. sym (as-in χ u mu) ∙ conn (apart χ) (one χ, const-apart χ t s c) u v mu mv ∙ as-in χ v mv)
+      (λ conn χ c. conn χ (c .1))
+    where
+      as-in : (χ : ℕ → ℕ) (u : ℕ) → List·Memᴰ u vs → apart χ u ≡ χ u
+      as-in χ u m = rw (ne-eqb (σ u) (σ (e .a)) (out u m))
+
+      one : (χ : ℕ → ℕ) → apart χ (e .a) ≡ apart χ (e .b)
+      one χ = rw (eq-eqb (σ (e .a)) (σ (e .a)) refl, eq-eqb (σ (e .b)) (σ (e .a)) (sym here))
+
+  idle : (fs : List Weighted) (t : List Ends) → Const σ (map (λ e. e .joins) fs) → Const σ t → sum vs fs (e ∷ t) ≡ sum vs fs t
+  unfolding sum
+  idle [] t k s = ap (λ b. cond b 1 0) (idle-connected t s)
+  idle (f ∷ fs) t k s =
+      ap₂ (λ p q. f .sound * p + f .broken * q)
+      (sum-same vs fs (f .joins ∷ e ∷ t) (e ∷ f .joins ∷ t) (λ χ. (λ c. (c .1 .0, (c .0, c .1 .1)), λ c. (c .1 .0, (c .0, c .1 .1)))) ∙ idle fs (f .joins ∷ t) (k .1) (k .0, s))
+      (idle fs t (k .1) s)
+
+const-front : (σ : ℕ → ℕ) (es : List Weighted) (i : ℕ) (z : Weighted) → i < length es → Const σ (map (λ e. e .joins) es)
+    → (σ (getD es i z .joins .a) ≡ σ (getD es i z .joins .b)) × Const σ (map (λ e. e .joins) (deleteAt i es))
+unfolding deleteAt
+const-front σ [] i z h c = absurd (not-suc-le-zero h)
+const-front σ (f ∷ es) zero z h c = c
+const-front σ (f ∷ es) (suc i) z h c = let k = const-front σ es i z (le-of-suc-le-suc h) (c .1) in (k .0, (c .0, k .1))
+
+pub astray-law : (vs : List ℕ) (es : List Weighted) (i : ℕ) (z : Weighted) → i < length es
+    → (σ : ℕ → ℕ) → Const σ (map (λ e. e .joins) es) → ((u : ℕ) → List·Memᴰ u vs → σ u ≡ σ (getD es i z .joins .a) → ⊥)
+    → sum vs es [] ≡ (getD es i z .sound + getD es i z .broken) * sum vs (deleteAt i es) []
+astray-law vs es i z h σ c out =
+    let k = const-front σ es i z h c in
+    front vs es [] i z h ∙ rw (idle vs σ (getD es i z .joins) (k .0) out (deleteAt i es) [] (k .1) tt) (sym (add-mul (getD es i z .sound) (getD es i z .broken) _))
 
 -- step 7: the sets that hold a link are those of the contracted network
 pub contraction : (vs ws : List ℕ) (es : List Weighted) (e : Ends) (keep gone : ℕ) → (keep ≡ gone → ⊥) → Onto keep gone vs ws → Joins e gone keep

@@ -129,96 +129,6 @@ module _ (g : Network) (no-loop : Fails isLoop (g .links)) where
       let e = linkAt g i in
       record { place = place; differ = eqb-false (e .a) (e .b) (no-loop e (getD-mem (g .links) _ place)) }
 
--- ---- which step fits
-
-abbrev pub Fits : Network → Step → Type 0
-Fits g OneNode = length (g .nodes) ≤ 1
-Fits g Disconnected = connected (g .nodes) (map ends (g .links)) ≡ false
-Fits g (Loop i) = AtLoop g i
-Fits g (Parallel i j) = AtPair g i j
-Fits g (End v i) = AtEnd g v i
-Fits g (Series v i j) = AtSeries g v i j
-Fits g (Split i) = AtSplit g i
-
-abbrev FitsIf : Network → Option Step → Type 0
-FitsIf g o = Answers (Fits g) (Unit {0}) o
-
-module _ (g : Network) (no-loop : Fails isLoop (g .links)) where
-  end-fits : (v : ℕ) → List·Memᴰ v (g .nodes) → (is : List ℕ) → Placed (touches v) (g .links) is → FitsIf g (endOf v is)
-  end-fits v n [] h = tt
-  end-fits v n (i ∷ []) h = at-end g no-loop v i n h
-  end-fits v n (i ∷ (j ∷ r)) h = tt
-
-  series-fits : (v : ℕ) → List·Memᴰ v (g .nodes) → (is : List ℕ) → Placed (touches v) (g .links) is → FitsIf g (seriesOf v is)
-  series-fits v n [] h = tt
-  series-fits v n (i ∷ []) h = tt
-  series-fits v n (i ∷ (j ∷ [])) h = at-series g no-loop v i j n h
-  series-fits v n (i ∷ (j ∷ (k ∷ r))) h = tt
-
--- more than one node are connected if they are in one piece, else not
-whole-by : (g : Network) → leb (length (g .nodes)) 1 ≡ false → (whole : Bool) → eqb (piecesOf g) 1 ≡ whole → connected (g .nodes) (map ends (g .links)) ≡ whole
-whole-by g o whole w = one-piece g (omega (arith, leb-false (length (g .nodes)) 1 o)) ∙ w
-
--- the first of steps 1 to 7 that fits, by the answers of the tests
-abbrev pub inTurn : (loop : Option ℕ) (one whole : Bool) (pair : Option (ℕ × ℕ)) (end series : Option Step) → ℕ → Step
-inTurn loop one whole pair end series i =
-    Option·map Loop loop otherwise when one OneNode otherwise when (not whole) Disconnected
-    otherwise Option·map (λ ij. Parallel (ij .0) (ij .1)) pair otherwise end otherwise series otherwise Split i
-
--- it fits, by the answer of each test
-fits-by : (g : Network) → Valid g → (i : ℕ) → Place view g i
-    → (loop : Option ℕ) → Answers (Holds isLoop (g .links)) (Fails isLoop (g .links)) loop
-    → (one : Bool) → leb (length (g .nodes)) 1 ≡ one
-    → (whole : Bool) → eqb (piecesOf g) 1 ≡ whole
-    → (pair : Option (ℕ × ℕ)) → Answers (Pair (g .links)) (Distinct (g .links)) pair
-    → (end : Option Step) → (Fails isLoop (g .links) → FitsIf g end)
-    → (series : Option Step) → (Fails isLoop (g .links) → FitsIf g series)
-    → Fits g (inTurn loop one whole pair end series i)
-fits-by g valid k at (some i) l one o whole w pair p end e series s =
-    record { place = l .place; same = eqb-true (linkAt g i .a) (linkAt g i .b) (l .test) }
-fits-by g valid k at none l true o whole w pair p end e series s = leb-true (length (g .nodes)) 1 o
-fits-by g valid k at none l false o false w pair p end e series s = whole-by g o false w
-fits-by g valid k at none l false o true w (some ij) p end e series s = at-pair g ij p
-fits-by g valid k at none l false o true w none p (some t) e series s = e l
-fits-by g valid k at none l false o true w none p none e (some t) s = s l
-fits-by g valid k at none l false o true w none p none e none s = at-split g l (g .nodes) (valid .ascending) (leb-false (length (g .nodes)) 1 o) (whole-by g o true w) k at
-
-pub fits-at : (g : Network) → Valid g → (i : ℕ) → Place view g i → Fits g (nextAt i g)
-unfolding nextAt
-fits-at g valid i at =
-    let es = g .links in
-    let vs = g .nodes in
-    fits-by g valid i at (firstAt isLoop es) (first-at isLoop es) (leb (length vs) 1) refl (eqb (piecesOf g) 1) refl (firstPair es) (first-pair es)
-    (lowest endOf es vs) (λ l. lowest-of (Fits g) endOf es vs (end-fits g l))
-    (lowest seriesOf es vs) (λ l. lowest-of (Fits g) seriesOf es vs (series-fits g l))
-
-module _ (i : ℕ) (g : Network) where
-  -- the step of the rule, by the answer of each test
-  pub next-by : (loop : Option ℕ) → firstAt isLoop (g .links) ≡ loop
-      → (one : Bool) → leb (length (g .nodes)) 1 ≡ one
-      → (whole : Bool) → eqb (piecesOf g) 1 ≡ whole
-      → (pair : Option (ℕ × ℕ)) → firstPair (g .links) ≡ pair
-      → (end : Option Step) → lowest endOf (g .links) (g .nodes) ≡ end
-      → (series : Option Step) → lowest seriesOf (g .links) (g .nodes) ≡ series
-      → nextAt i g ≡ inTurn loop one whole pair end series i
-  unfolding nextAt
-  next-by loop l one o whole w pair p end e series s = rw (← l, ← o, ← w, ← p, ← e, ← s)
-
-  -- step 3 fits exactly where no earlier step does and the links do not connect the nodes
-  pub step-by-connection : nextAt i g
-      ≡ inTurn (firstAt isLoop (g .links)) (leb (length (g .nodes)) 1) (connected (g .nodes) (map ends (g .links))) (firstPair (g .links)) (lowest endOf (g .links) (g .nodes)) (lowest seriesOf (g .links) (g .nodes)) i
-  step-by-connection = go (leb (length (g .nodes)) 1) refl
-    where
-      first : Bool → Bool → Step
-      first one whole = inTurn (firstAt isLoop (g .links)) one whole (firstPair (g .links)) (lowest endOf (g .links) (g .nodes)) (lowest seriesOf (g .links) (g .nodes)) i
-
-      by-pieces : (one : Bool) → leb (length (g .nodes)) 1 ≡ one → nextAt i g ≡ first one (eqb (piecesOf g) 1)
-      by-pieces one o = next-by _ refl one o _ refl _ refl _ refl _ refl
-
-      go : (one : Bool) → leb (length (g .nodes)) 1 ≡ one → nextAt i g ≡ first one (connected (g .nodes) (map ends (g .links)))
-      go true o = by-pieces true o
-      go false o = by-pieces false o ∙ ap (first false) (sym (whole-by g o _ refl))
-
 -- ---- the choice of the link to split on
 
 -- document 01's choice names a link
@@ -229,74 +139,13 @@ first-link g here = here
 pub chosen-link : (g : Network) → Place view g (chosen g)
 chosen-link g here = at-largest g here .place
 
-pub fits : (g : Network) → Valid g → Fits g (next g)
-fits g valid = fits-at g valid (chosen g) (chosen-link g)
-
--- ---- the place of a split
-
--- the place of a split, or c
-abbrev splitAt : ℕ → Step → ℕ
-splitAt c OneNode = c
-splitAt c Disconnected = c
-splitAt c (Loop i) = c
-splitAt c (Parallel i j) = c
-splitAt c (End v i) = c
-splitAt c (Series v i j) = c
-splitAt c (Split i) = i
-
--- no other step is a split
-abbrev Other : ℕ → Option Step → Type 0
-Other c o = Answers (λ (s : Step). splitAt c s ≡ c) (Unit {0}) o
-
-other-first : (c : ℕ) (o : Option Step) (s : Step) → Other c o → splitAt c s ≡ c → splitAt c (o otherwise s) ≡ c
-other-first c (some t) s h k = h
-other-first c none s h k = k
-
-other-map : (c : ℕ) {A : Type 0} (f : A → Step) → ((a : A) → splitAt c (f a) ≡ c) → (o : Option A) → Other c (Option·map f o)
-other-map c f h (some a) = h a
-other-map c f h none = tt
-
-other-when : (c : ℕ) (b : Bool) (s : Step) → splitAt c s ≡ c → Other c (when b s)
-other-when c true s h = h
-other-when c false s h = tt
-
-other-lowest : (c : ℕ) (rule : ℕ → List ℕ → Option Step) → ((v : ℕ) (is : List ℕ) → Other c (rule v is)) → (es : List Link) (vs : List ℕ) → Other c (lowest rule es vs)
-unfolding lowest
-other-lowest c rule h es [] = tt
-other-lowest c rule h es (v ∷ vs) = go (rule v (places (touches v) es)) (h v (places (touches v) es)) (other-lowest c rule h es vs)
-  where
-    go : (o : Option Step) → Other c o → Other c (lowest rule es vs) → Other c (elim o [ some s ↦ some s | none ↦ lowest rule es vs ])
-    go (some s) k l = k
-    go none k l = l
-
-end-other : (c v : ℕ) (is : List ℕ) → Other c (endOf v is)
-end-other c v [] = tt
-end-other c v (i ∷ []) = refl
-end-other c v (i ∷ (j ∷ r)) = tt
-
-series-other : (c v : ℕ) (is : List ℕ) → Other c (seriesOf v is)
-series-other c v [] = tt
-series-other c v (i ∷ []) = tt
-series-other c v (i ∷ (j ∷ [])) = refl
-series-other c v (i ∷ (j ∷ (k ∷ r))) = tt
-
--- step 7 splits at the given place
-pub split-there : (i : ℕ) (g : Network) (j : ℕ) → nextAt i g ≡ Split j → j ≡ i
-unfolding nextAt
-split-there i g j e =
-    sym (ap (splitAt i) e)
-    ∙ other-first i (Option·map Loop (firstAt isLoop (g .links))) _ (other-map i Loop (λ k. refl) (firstAt isLoop (g .links)))
-    (other-first i (when (leb (length (g .nodes)) 1) OneNode) _ (other-when i (leb (length (g .nodes)) 1) OneNode refl)
-    (other-first i (when (not (eqb (piecesOf g) 1)) Disconnected) _ (other-when i (not (eqb (piecesOf g) 1)) Disconnected refl)
-    (other-first i (Option·map (λ ij. Parallel (ij .0) (ij .1)) (firstPair (g .links))) _ (other-map i (λ (ij : ℕ × ℕ). Parallel (ij .0) (ij .1)) (λ ij. refl) (firstPair (g .links)))
-    (other-first i (lowest endOf (g .links) (g .nodes)) _ (other-lowest i endOf (end-other i) (g .links) (g .nodes))
-    (other-first i (lowest seriesOf (g .links) (g .nodes)) (Split i) (other-lowest i seriesOf (series-other i) (g .links) (g .nodes)) refl)))))
+-- ---- document 01's rule by the place of a split
 
 -- a step by the place of a split: one and the same for every place, or the split there
-abbrev UniformStep : (ℕ → Step) → Type 0
+abbrev pub UniformStep : (ℕ → Step) → Type 0
 UniformStep x = ((s : Step) × ((i : ℕ) → x i ≡ s)) ⊎ ((i : ℕ) → x i ≡ Split i)
 
-uniform-otherwise : (o : Option Step) (x : ℕ → Step) → UniformStep x → UniformStep (λ i. o otherwise x i)
+pub uniform-otherwise : (o : Option Step) (x : ℕ → Step) → UniformStep x → UniformStep (λ i. o otherwise x i)
 uniform-otherwise (some s) x u = inl (s, λ i. refl)
 uniform-otherwise none x u = u
 
@@ -316,13 +165,3 @@ uniform g = go (uniform-next g)
     go : UniformStep (λ i. nextAt i g) → Uniform (λ i. stepAt i g)
     go (inl u) = inl (leaves g (u .0), λ i. ap (leaves g) (u .1 i))
     go (inr u) = inr (λ i. (_, _, _, ap (leaves g) (u i)))
-
--- where step 7 fits, it fits at every place
-pub split-anywhere : (g : Network) (i j : ℕ) → nextAt i g ≡ Split j → (k : ℕ) → nextAt k g ≡ Split k
-split-anywhere g i j e k = go (uniform-next g)
-  where
-    go : UniformStep (λ n. nextAt n g) → nextAt k g ≡ Split k
-    go (inr u) = u k
-    go (inl u) =
-        let here : (n : ℕ) → nextAt n g ≡ Split j = λ n. u .1 n ∙ sym (u .1 i) ∙ e in
-        absurd (omega (arith, split-there 0 g j (here 0), split-there 1 g j (here 1)))

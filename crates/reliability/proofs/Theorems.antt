@@ -3,6 +3,7 @@ use Prim.Native.Nat.{ℕ, _+_, _*_, _≤_, min}
 use mathlib.Core.Path.{_≡_}
 use mathlib.Core.List.{List, [], map}
 use mathlib.Core.Bool.{true}
+use native.Mathlib.Omega.{arith}
 use lib.Dec.{leb}
 use lib.ListN.{length}
 use Rattle.rounding.specs.Rounding.{S}
@@ -10,10 +11,10 @@ use Rattle.rounding.specs.declared.Direction.{Direction}
 use Rattle.rounding.specs.declared.Direction.the-variants.{Down, Up}
 use Rattle.reliability.specs.Networks.{Network, Valid}
 use Rattle.reliability.specs.Exact.{Weighted, weighted, sum, total, AllEnclosed, altogether}
-use Rattle.reliability.specs.Rule.{chosen, stepAt, tree, figure, needed, budget}
+use Rattle.reliability.specs.Rule.{chosen, stepAt, tree, side, figure, needed, budget}
 use Rattle.reliability.proofs.Runs.{steps, finished}
 use Rattle.reliability.proofs.Steps.{view, chosen-link}
-use Rattle.reliability.proofs.Enclosure.{lawful}
+use Rattle.reliability.proofs.Everywhere.{lawful}
 use Rattle.reliability.proofs.Weights.{Near, gaps, low-enclosed}
 use Rattle.reliability.proofs.Validity.{valued}
 use Rattle.reliability.proofs.Promises as rule
@@ -27,6 +28,9 @@ module _ (g : Network) (limit : ℕ) where
   pub steps-taken : figure g limit .steps ≡ min (needed g) limit
   steps-taken = steps (tree g) limit
 
+  pub within-limit : figure g limit .steps ≤ limit
+  within-limit = omega (arith, steps-taken)
+
   -- demand 3: finished exactly when no more splits are needed than the limit
   pub finished-when : figure g limit .finished ≡ leb (needed g) limit
   finished-when = finished (tree g) limit
@@ -36,8 +40,11 @@ module _ (g : Network) (valid : Valid g) (limit : ℕ) where
   pub nesting : (larger : ℕ) → limit ≤ larger → (figure g limit .low ≤ figure g larger .low) × (figure g larger .high ≤ figure g limit .high)
   nesting = rule.nesting Valid view stepAt lawful chosen chosen-link g valid limit
 
+  pub figure-range : (d : Direction) → side d (figure g limit) ≤ S
+  figure-range = rule.figure-range Valid view stepAt lawful chosen chosen-link g valid limit
+
   pub high-range : figure g limit .high ≤ S
-  high-range = rule.figure-range Valid view stepAt lawful chosen chosen-link g valid limit Up
+  high-range = figure-range Up
 
   pub low-high : figure g limit .low ≤ figure g limit .high
   low-high = rule.low-high Valid view stepAt lawful chosen chosen-link g valid limit

@@ -36,6 +36,10 @@ pub product-monotone : (d : Direction) {p p′ q q′ : ℕ} → p ≤ p′ → 
 unfolding product
 product-monotone d h k = larger d (mul-le-mul h k)
 
+pub product-order : {p p′ q q′ : ℕ} → p ≤ p′ → q ≤ q′ → product Down p q ≤ product Up p′ q′
+unfolding product
+product-order {p} {p′} {q} {q′} h k = le-trans (product-monotone Down h k) (down-up (p′ * q′) S)
+
 pub product-range : (d : Direction) (p q : ℕ) → p ≤ S → q ≤ S → product d p q ≤ S
 unfolding product
 product-range d p q h k = range d (p * q) (mul-le-mul h k)
