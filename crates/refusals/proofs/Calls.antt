@@ -40,6 +40,11 @@ unmet : (t : Bool) (c : CallCause) (v : CallVerdict) → cond t (Refused c) v �
 unmet true c v e = let z : _≡_ {A = ℕ} 0 1 = cc in absurd (omega arith)
 unmet false c v e = (refl, e)
 
+-- nor either of two
+neither : (s t : Bool) (c : CallCause) → cond (s || t) (Refused c) Accepted ≡ Accepted → (s ≡ false) × (t ≡ false)
+neither true t c e = let z : _≡_ {A = ℕ} 0 1 = cc in absurd (omega arith)
+neither false t c e = (refl, unmet t c Accepted e .0)
+
 pub asked-means : (limit room : ℕ) → asked limit room ≡ Accepted ↔ (limit ≤ 1000000) × (16 ≤ room)
 unfolding asked
 asked-means limit room = (
@@ -59,10 +64,6 @@ placed-means plan place = (
   λ e. leb-false (sizeM plan) place (unmet (leb (sizeM plan) place) Place Accepted e .0),
   λ h. simp (lt-leb (sizeM plan) place h),
 )
-
-neither : (s t : Bool) (c : CallCause) → cond (s || t) (Refused c) Accepted ≡ Accepted → (s ≡ false) × (t ≡ false)
-neither true t c e = let z : _≡_ {A = ℕ} 0 1 = cc in absurd (omega arith)
-neither false t c e = (refl, unmet t c Accepted e .0)
 
 -- a choice of nodes of the plan, one at least
 pub named-means : (plan : List ℕ) (choice : ℕ) → named plan choice ≡ Accepted ↔ (0 < choice) × (choice < 2 ^ sizeN plan)
@@ -114,7 +115,7 @@ figure-asks plan table limit room e =
     let h = figure-means plan table limit room .0 e in
     (h .0, h .1, h .2, accepted-means plan .1 (h .3))
 
--- and of a figure of chosen nodes: then the choice
+-- of a figure of chosen nodes: those of a figure, and then the choice
 pub chosen-means : (plan table : List ℕ) (choice limit room : ℕ)
     → chosenVerdict plan table choice limit room ≡ Accepted ↔ (figureVerdict plan table limit room ≡ Accepted) × (0 < choice) × (choice < 2 ^ sizeN plan)
 chosen-means plan table choice limit room =
@@ -122,6 +123,7 @@ chosen-means plan table choice limit room =
     let e = also-means (figureVerdict plan table limit room) (named plan choice) in
     (λ h. let (u, v) = e .0 h in (u, n .0 v .0, n .0 v .1), λ h. e .1 (h .0, n .1 (h .1, h .2)))
 
+-- each of them
 pub chosen-accepts : (plan table : List ℕ) (choice limit room : ℕ)
     → chosenVerdict plan table choice limit room ≡ Accepted ↔ (limit ≤ 1000000) × (16 ≤ room) × AcceptedTable table × WellFormed plan × (0 < choice) × (choice < 2 ^ sizeN plan)
 chosen-accepts plan table choice limit room =
@@ -129,6 +131,7 @@ chosen-accepts plan table choice limit room =
     let e = chosen-means plan table choice limit room in
     (λ h. let (f, s, l) = e .0 h in let c = w .0 f in (c .0, c .1, c .2, c .3, s, l), λ h. e .1 (w .1 (h .0, h .1, h .2, h .3), h .4, h .5))
 
+-- as the call's callees ask it
 pub chosen-asks : (plan table : List ℕ) (choice limit room : ℕ) → chosenVerdict plan table choice limit room ≡ Accepted
     → (limit ≤ 1000000) × (16 ≤ room) × AcceptedTable table × (verdict plan ≡ PlanAccepted) × (0 < choice) × (choice < 2 ^ sizeN plan)
 chosen-asks plan table choice limit room e =
@@ -136,7 +139,7 @@ chosen-asks plan table choice limit room e =
     let h = figure-asks plan table limit room f in
     (h .0, h .1, h .2, h .3, s, l)
 
--- all nodes chosen are refused as a figure is
+-- with all nodes chosen, no cause more than a figure's
 pub chosen-all : (plan table : List ℕ) (limit room : ℕ) → chosenVerdict plan table (2 ^ sizeN plan - 1) limit room ≡ figureVerdict plan table limit room
 chosen-all plan table limit room =
     no-more (figureVerdict plan table limit room) (named plan (2 ^ sizeN plan - 1)) (λ e.
