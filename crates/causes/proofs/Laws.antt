@@ -5,7 +5,7 @@ use mathlib.Core.Bool.{Bool, true, false, cond}
 use native.Mathlib.Omega.{arith}
 use Rattle.plan.proofs.Verdicts.{number-range}
 use Rattle.causes.specs.declared.CallCause.{CallCause}
-use Rattle.causes.specs.declared.CallCause.the-variants.{Limit, Buffer, TableSize, TableValues, Place, SavedWork, OpenSplit, Plan, SecondPlan}
+use Rattle.causes.specs.declared.CallCause.the-variants.{Limit, Buffer, TableSize, TableValues, Place, Choice, SavedWork, OpenSplit, Plan, SecondPlan}
 use Rattle.causes.specs.declared.CallVerdict.{CallVerdict}
 use Rattle.causes.specs.declared.CallVerdict.the-variants.{Accepted, Refused}
 use Rattle.causes.specs.Causes.{callNumber, callReturned}
@@ -16,6 +16,7 @@ call-number-range Buffer = omega arith
 call-number-range TableSize = omega arith
 call-number-range TableValues = omega arith
 call-number-range Place = omega arith
+call-number-range Choice = omega arith
 call-number-range SavedWork = omega arith
 call-number-range OpenSplit = omega arith
 call-number-range (Plan c) = omega (arith, number-range c)

@@ -2,7 +2,7 @@
 use Prim.Native.Nat.{ℕ, _+_, _*_}
 use Rattle.plan.specs.Plans.{number, namedLink}
 use Rattle.causes.specs.declared.CallCause.{CallCause}
-use Rattle.causes.specs.declared.CallCause.the-variants.{Limit, Buffer, TableSize, TableValues, Place, SavedWork, OpenSplit, Plan, SecondPlan}
+use Rattle.causes.specs.declared.CallCause.the-variants.{Limit, Buffer, TableSize, TableValues, Place, Choice, SavedWork, OpenSplit, Plan, SecondPlan}
 use Rattle.causes.specs.declared.CallVerdict.{CallVerdict}
 use Rattle.causes.specs.declared.CallVerdict.the-variants.{Accepted, Refused}
 
@@ -13,6 +13,7 @@ callNumber Buffer = 9
 callNumber TableSize = 12
 callNumber TableValues = 13
 callNumber Place = 8
+callNumber Choice = 14
 callNumber SavedWork = 10
 callNumber OpenSplit = 11
 callNumber (Plan c) = number c
@@ -25,6 +26,7 @@ callLink Buffer = 0
 callLink TableSize = 0
 callLink TableValues = 0
 callLink Place = 0
+callLink Choice = 0
 callLink SavedWork = 0
 callLink OpenSplit = 0
 callLink (Plan c) = namedLink c

@@ -1,26 +1,27 @@
 -- Verdicts of a call: the numbers returned, and what is accepted.
-use Prim.Native.Nat.{ℕ, _+_, _≤_, _<_}
+use Prim.Native.Nat.{ℕ, _+_, _-_, _^_, _≤_, _<_}
 use mathlib.Core.Path.{_≡_, refl, sym, ap, _∙_}
 use mathlib.Core.List.{List}
 use mathlib.Core.Logic.{_↔_, Iff·trans}
-use mathlib.Core.Bool.{Bool, true, false, cond}
+use mathlib.Core.Bool.{Bool, true, false, cond, _||_}
 use native.Mathlib.Omega.{arith}
-use lib.Dec.{leb, ltb}
-use borrow.Author.Tests.{le-ltb, lt-leb, ltb-false, leb-false}
+use lib.Dec.{eqb, leb, ltb}
+use lib.Pow.{pow-mono}
+use borrow.Author.Tests.{le-ltb, lt-leb, ne-eqb, ltb-false, leb-false, eqb-false}
 use Rattle.tables.specs.Tables.{sized, wellRated, AcceptedTable}
 use Rattle.tables.proofs.Theorems.{accepted-table}
 use Rattle.plan.specs.declared.Cause.{Cause}
 use Rattle.plan.specs.declared.Verdict.{Verdict}
 use Rattle.plan.specs.declared.Verdict.the-variants.{Accepted as PlanAccepted, Refused as PlanRefused}
-use Rattle.plan.specs.Plans.{WellFormed, sizeM, verdict, returned}
+use Rattle.plan.specs.Plans.{WellFormed, sizeN, sizeM, verdict, returned}
 use Rattle.plan.proofs.Verdicts.{accepted-means}
 use Rattle.causes.specs.declared.CallCause.{CallCause}
-use Rattle.causes.specs.declared.CallCause.the-variants.{Limit, Buffer, TableSize, TableValues, Place}
+use Rattle.causes.specs.declared.CallCause.the-variants.{Limit, Buffer, TableSize, TableValues, Place, Choice}
 use Rattle.causes.specs.declared.CallVerdict.{CallVerdict}
 use Rattle.causes.specs.declared.CallVerdict.the-variants.{Accepted, Refused}
 use Rattle.causes.specs.Causes.{callReturned}
 use Rattle.causes.proofs.Laws.{both-passed}
-use Rattle.refusals.specs.Refusals.{asked, workRoom, tabled, planned, plannedSecond, placed, also, tableAndPlan, figureVerdict, sittingVerdict}
+use Rattle.refusals.specs.Refusals.{asked, workRoom, tabled, planned, plannedSecond, placed, named, also, tableAndPlan, figureVerdict, chosenVerdict, sittingVerdict}
 
 -- ---- the numbers returned
 
@@ -38,6 +39,11 @@ second-returned c = omega arith
 unmet : (t : Bool) (c : CallCause) (v : CallVerdict) → cond t (Refused c) v ≡ Accepted → (t ≡ false) × (v ≡ Accepted)
 unmet true c v e = let z : _≡_ {A = ℕ} 0 1 = cc in absurd (omega arith)
 unmet false c v e = (refl, e)
+
+-- nor either of two
+neither : (s t : Bool) (c : CallCause) → cond (s || t) (Refused c) Accepted ≡ Accepted → (s ≡ false) × (t ≡ false)
+neither true t c e = let z : _≡_ {A = ℕ} 0 1 = cc in absurd (omega arith)
+neither false t c e = (refl, unmet t c Accepted e .0)
 
 pub asked-means : (limit room : ℕ) → asked limit room ≡ Accepted ↔ (limit ≤ 1000000) × (16 ≤ room)
 unfolding asked
@@ -57,6 +63,17 @@ unfolding placed
 placed-means plan place = (
   λ e. leb-false (sizeM plan) place (unmet (leb (sizeM plan) place) Place Accepted e .0),
   λ h. simp (lt-leb (sizeM plan) place h),
+)
+
+-- a choice of nodes of the plan, one at least
+pub named-means : (plan : List ℕ) (choice : ℕ) → named plan choice ≡ Accepted ↔ (0 < choice) × (choice < 2 ^ sizeN plan)
+unfolding named
+named-means plan choice = (
+  λ e.
+      let (p, q) = neither (eqb choice 0) (leb (2 ^ sizeN plan) choice) Choice e in
+      let some = eqb-false choice 0 p in
+      (omega (arith, some), leb-false (2 ^ sizeN plan) choice q),
+  λ h. simp (ne-eqb choice 0 (λ e. omega arith), lt-leb (2 ^ sizeN plan) choice (h .1)),
 )
 
 pub planned-means : (v : Verdict) → planned v ≡ Accepted ↔ v ≡ PlanAccepted
@@ -97,6 +114,41 @@ pub figure-asks : (plan table : List ℕ) (limit room : ℕ) → figureVerdict p
 figure-asks plan table limit room e =
     let h = figure-means plan table limit room .0 e in
     (h .0, h .1, h .2, accepted-means plan .1 (h .3))
+
+-- of a figure of chosen nodes: those of a figure, and then the choice
+pub chosen-means : (plan table : List ℕ) (choice limit room : ℕ)
+    → chosenVerdict plan table choice limit room ≡ Accepted ↔ (figureVerdict plan table limit room ≡ Accepted) × (0 < choice) × (choice < 2 ^ sizeN plan)
+chosen-means plan table choice limit room =
+    let n = named-means plan choice in
+    let e = also-means (figureVerdict plan table limit room) (named plan choice) in
+    (λ h. let (u, v) = e .0 h in (u, n .0 v .0, n .0 v .1), λ h. e .1 (h .0, n .1 (h .1, h .2)))
+
+-- each of them
+pub chosen-accepts : (plan table : List ℕ) (choice limit room : ℕ)
+    → chosenVerdict plan table choice limit room ≡ Accepted ↔ (limit ≤ 1000000) × (16 ≤ room) × AcceptedTable table × WellFormed plan × (0 < choice) × (choice < 2 ^ sizeN plan)
+chosen-accepts plan table choice limit room =
+    let w = figure-means plan table limit room in
+    let e = chosen-means plan table choice limit room in
+    (λ h. let (f, s, l) = e .0 h in let c = w .0 f in (c .0, c .1, c .2, c .3, s, l), λ h. e .1 (w .1 (h .0, h .1, h .2, h .3), h .4, h .5))
+
+-- as the call's callees ask it
+pub chosen-asks : (plan table : List ℕ) (choice limit room : ℕ) → chosenVerdict plan table choice limit room ≡ Accepted
+    → (limit ≤ 1000000) × (16 ≤ room) × AcceptedTable table × (verdict plan ≡ PlanAccepted) × (0 < choice) × (choice < 2 ^ sizeN plan)
+chosen-asks plan table choice limit room e =
+    let (f, s, l) = chosen-means plan table choice limit room .0 e in
+    let h = figure-asks plan table limit room f in
+    (h .0, h .1, h .2, h .3, s, l)
+
+-- with all nodes chosen, no cause more than a figure's
+pub chosen-all : (plan table : List ℕ) (limit room : ℕ) → chosenVerdict plan table (2 ^ sizeN plan - 1) limit room ≡ figureVerdict plan table limit room
+chosen-all plan table limit room =
+    no-more (figureVerdict plan table limit room) (named plan (2 ^ sizeN plan - 1)) (λ e.
+    let some = pow-mono (figure-means plan table limit room .0 e .3 .some-node) in
+    named-means plan (2 ^ sizeN plan - 1) .1 (omega arith, omega arith))
+  where
+    no-more : (u v : CallVerdict) → (u ≡ Accepted → v ≡ Accepted) → also u v ≡ u
+    no-more Accepted v h = h refl
+    no-more (Refused c) v h = refl
 
 -- and of a sitting, but for its saved work: both buffers
 pub sitting-means : (plan table : List ℕ) (limit room work : ℕ)

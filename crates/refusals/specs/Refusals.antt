@@ -1,13 +1,13 @@
 -- Which cause of refusal a call meets first.
-use Prim.Native.Nat.{ℕ}
+use Prim.Native.Nat.{ℕ, _^_}
 use mathlib.Core.List.{List}
-use mathlib.Core.Bool.{cond}
-use lib.Dec.{leb, ltb}
+use mathlib.Core.Bool.{cond, _||_}
+use lib.Dec.{eqb, leb, ltb}
 use Rattle.tables.specs.Tables.{sized, wellRated}
 use Rattle.plan.specs.declared.Verdict.{Verdict}
 use Rattle.plan.specs.declared.Verdict.the-variants.{Accepted as PlanAccepted, Refused as PlanRefused}
-use Rattle.plan.specs.Plans.{sizeM, verdict}
-use Rattle.causes.specs.declared.CallCause.the-variants.{Limit, Buffer, TableSize, TableValues, Place, Plan, SecondPlan}
+use Rattle.plan.specs.Plans.{sizeN, sizeM, verdict}
+use Rattle.causes.specs.declared.CallCause.the-variants.{Limit, Buffer, TableSize, TableValues, Place, Choice, Plan, SecondPlan}
 use Rattle.causes.specs.declared.CallVerdict.{CallVerdict}
 use Rattle.causes.specs.declared.CallVerdict.the-variants.{Accepted, Refused}
 
@@ -38,6 +38,10 @@ plannedSecond (PlanRefused c) = Refused (SecondPlan c)
 unfoldable pub placed : List ℕ → ℕ → CallVerdict
 placed plan place = cond (leb (sizeM plan) place) (Refused Place) Accepted
 
+-- a choice that names no node, or node n or above
+unfoldable pub named : List ℕ → ℕ → CallVerdict
+named plan choice = cond (eqb choice 0 || leb (2 ^ sizeN plan) choice) (Refused Choice) Accepted
+
 -- the first verdict that is a refusal
 abbrev pub also : CallVerdict → CallVerdict → CallVerdict
 also Accepted v = v
@@ -49,6 +53,10 @@ tableAndPlan plan table = also (tabled table) (planned (verdict plan))
 
 abbrev pub figureVerdict : List ℕ → List ℕ → ℕ → ℕ → CallVerdict
 figureVerdict plan table limit room = also (asked limit room) (tableAndPlan plan table)
+
+-- of a figure of chosen nodes
+abbrev pub chosenVerdict : List ℕ → List ℕ → ℕ → ℕ → ℕ → CallVerdict
+chosenVerdict plan table choice limit room = also (figureVerdict plan table limit room) (named plan choice)
 
 abbrev pub importanceVerdict : List ℕ → List ℕ → ℕ → ℕ → ℕ → CallVerdict
 importanceVerdict plan table place limit room = also (figureVerdict plan table limit room) (placed plan place)

@@ -5,8 +5,8 @@ use plan::Verdict;
 ghost use mathlib.Core.Path.{_≡_};
 ghost use Prim.Native.Nat.{_≤_};
 ghost use lib.ListN.{length};
-ghost use Rattle.plan.specs.Plans.{verdict};
-ghost use Rattle.refusals.specs.Refusals.{asked, workRoom, tabled, also, planned, plannedSecond, placed, tableAndPlan, figureVerdict, importanceVerdict, sittingVerdict};
+ghost use Rattle.plan.specs.Plans.{sizeN, verdict};
+ghost use Rattle.refusals.specs.Refusals.{asked, workRoom, tabled, also, planned, plannedSecond, placed, named, tableAndPlan, figureVerdict, chosenVerdict, importanceVerdict, sittingVerdict};
 
 // Causes 7 and 9.
 fn asked_verdict(limit: u64, room: usize) -> CallVerdict
@@ -95,11 +95,38 @@ fn place_verdict(plan: &[u8], place: u64) -> CallVerdict
     }
 }
 
+// Cause 14.
+fn choice_verdict(plan: &[u8], choice: u64) -> CallVerdict
+    requires { ⌜ (4 ≤ length (now plan)) × (sizeN (now plan) ≤ 32) ⌝ }
+    ensures { λ r. ⌜ r ≡ named (now (plan .entry)) choice ⌝ }
+{
+    let n = reader::sizes_of(plan).n as u64;
+    if choice == 0 || (1u64 << n) <= choice {
+        return CallVerdict::Refused(CallCause::Choice);
+    }
+    CallVerdict::Accepted
+}
+
 pub fn figure_verdict(plan: &[u8], table: &[u8], limit: u64, room: usize) -> CallVerdict
     ensures { λ r. ⌜ r ≡ figureVerdict (now (plan .entry)) (now (table .entry)) limit room ⌝ }
 {
     match asked_verdict(limit, room) {
         CallVerdict::Accepted => table_and_plan(plan, table),
+        CallVerdict::Refused(c) => CallVerdict::Refused(c),
+    }
+}
+
+pub fn chosen_verdict(
+    plan: &[u8],
+    table: &[u8],
+    choice: u64,
+    limit: u64,
+    room: usize,
+) -> CallVerdict
+    ensures { λ r. ⌜ r ≡ chosenVerdict (now (plan .entry)) (now (table .entry)) choice limit room ⌝ }
+{
+    match figure_verdict(plan, table, limit, room) {
+        CallVerdict::Accepted => choice_verdict(plan, choice),
         CallVerdict::Refused(c) => CallVerdict::Refused(c),
     }
 }

@@ -32,6 +32,9 @@ enum-told-6 c = search needs
 enum-told-7 : tie.Need-enum-told-7
 enum-told-7 c = search needs
 
+enum-told-8 : tie.Need-enum-told-8
+enum-told-8 c = search needs
+
 enum-known-c : tie.Need-enum-known-c
 enum-known-c c = search needs
 
@@ -71,12 +74,15 @@ returns-7 c = search needs
 returns-8 : tie.Need-returns-8
 returns-8 c = search needs
 
+returns-9 : tie.Need-returns-9
+returns-9 c = search needs
+
 -- plan B's number is 20 more
 second : (c : CallCause) (p : Cause) {n : ℕ} → c ≡ SecondPlan p → n ≡ number p → n + 20 ≡ callNumber c
 second c p e q = rw (e, q) refl
 
-returns-9 : tie.Need-returns-9
-returns-9 c = second _ _ (c .before .before .c2 .given .1) (c .number-of2 .ensures)
+returns-10 : tie.Need-returns-10
+returns-10 c = second _ _ (c .before .before .c2 .given .1) (c .number-of2 .ensures)
 
 pub call-number-spec : {M : Type 1} → statement M
 call-number-spec =
@@ -89,6 +95,7 @@ call-number-spec =
     enum-told-5
     enum-told-6
     enum-told-7
+    enum-told-8
     enum-known-c
     number-of-requires
     enum-known-c-2
@@ -102,4 +109,5 @@ call-number-spec =
     returns-6
     returns-7
     returns-8
-    returns-9)
+    returns-9
+    returns-10)
