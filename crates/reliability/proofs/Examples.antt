@@ -25,7 +25,7 @@ pub record Row : Type 0 where
   pub finished : Bool
   pub exactly : ℕ
 
-pub same : Bool → Bool → Bool
+unfoldable pub same : Bool → Bool → Bool
 same true b = b
 same false true = false
 same false false = true
@@ -41,11 +41,11 @@ right choose r =
 pub triangle : ℕ → List Link
 triangle p = link 0 1 p ∷ link 1 2 p ∷ link 0 2 p ∷ []
 
-pub half : ℕ
+unfoldable pub half : ℕ
 half = 500000000
 
 -- four nodes, all joined: links 01, 02, 03, 12, 13, 23
-pub four : ℕ → ℕ → ℕ → ℕ → ℕ → ℕ → List Link
+unfoldable pub four : ℕ → ℕ → ℕ → ℕ → ℕ → ℕ → List Link
 four p q r s t u = link 0 1 p ∷ link 0 2 q ∷ link 0 3 r ∷ link 1 2 s ∷ link 1 3 t ∷ link 2 3 u ∷ []
 
 -- five nodes, all joined

@@ -30,3 +30,4 @@ pub mod Theorems
 pub mod TerminalTheorems
 pub mod Comparisons
 pub mod Examples
+pub mod ChosenExamples
