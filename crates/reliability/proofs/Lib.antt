@@ -4,6 +4,7 @@ pub mod Pieces
 pub mod Searches
 pub mod States
 pub mod Validity
+pub mod Chosen
 pub mod Within
 pub mod Lawful
 pub mod Runs
