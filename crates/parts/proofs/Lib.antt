@@ -1,3 +1,4 @@
 pub mod Changes
 pub mod Nodes
+pub mod Clearing
 pub mod Laws

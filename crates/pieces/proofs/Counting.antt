@@ -13,10 +13,10 @@ use Rattle.reliability.specs.Networks.{Ends, label, together, lastOfEach, piece
 use Rattle.reliability.proofs.Lists.{filter-past}
 use Rattle.reliability.proofs.Connection.{label-means}
 use Rattle.reliability.proofs.Pieces.{outside, first-parted, pieces-at-most}
-use Rattle.search.specs.Searches.{endsIn, nodesIn, Ended}
+use Rattle.search.specs.Searches.{endsIn, nodesIn, Inside, Ended}
 use Rattle.pieces.specs.Pieces.{Closed, PieceOf}
 use Rattle.search.proofs.Sets.{has, has-place, has-zip, same-length}
-use Rattle.search.proofs.Marks.{Within, Lowest, indices, places-listed, length-places, filter-indices, lowest-first, none-listed}
+use Rattle.search.proofs.Marks.{Lowest, indices, places-listed, length-places, filter-indices, lowest-first, none-listed}
 use Rattle.pieces.proofs.Flood.{mem-ends}
 
 -- the set less what is also in another
@@ -40,7 +40,7 @@ module _ (alive : ℕ) (as₁ bs : List ℕ) (long : (64 ≤ length as₁) × (6
   has-left u =
       has-zip (λ b c. b && not c) refl left rest piece gone u ∙ ap (λ (b : Bool). has rest u && not b) (found u) ∙ less (has rest u) (together links u v)
 
-  left-within : Within left rest
+  left-within : Inside left rest
   left-within u h = and-eq-true-iff (has rest u) (not (together links u v)) .0 (sym (has-left u) ∙ h) .0
 
   -- both ends of a link are in one piece
@@ -71,7 +71,7 @@ module _ (alive : ℕ) (as₁ bs : List ℕ) (long : (64 ≤ length as₁) × (6
 -- count pieces are found, and the nodes left have the others
 pub record Counted (nodes alive : ℕ) (as₁ bs : List ℕ) (rest count : ℕ) : Type 0 where
   pub closed : Closed rest alive as₁ bs
-  pub within : Within rest nodes
+  pub within : Inside rest nodes
   pub total : count + pieces (nodesIn rest) (endsIn alive as₁ bs) ≡ pieces (nodesIn nodes) (endsIn alive as₁ bs)
 
 module _ (nodes alive : ℕ) (as₁ bs : List ℕ) where

@@ -4,6 +4,7 @@ pub mod Pieces
 pub mod Searches
 pub mod States
 pub mod Validity
+pub mod Chosen
 pub mod Within
 pub mod Lawful
 pub mod Runs
@@ -12,7 +13,6 @@ pub mod Steps
 pub mod Reductions
 pub mod Remainders
 pub mod Enclosure
-pub mod Chosen
 pub mod TerminalSteps
 pub mod TerminalSums
 pub mod Weights

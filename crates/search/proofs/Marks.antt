@@ -12,7 +12,7 @@ use Rattle.bits.proofs.Digits.{length-digits, digits-empty}
 use Rattle.bits.proofs.Places.{first-set, count-cleared}
 use Rattle.reliability.proofs.Lists.{by-eqb, filter-here, filter-past}
 use Rattle.search.specs.declared.Found.the-variants.{At, Nothing}
-use Rattle.search.specs.Searches.{pick, from, placesIn, filter, found}
+use Rattle.search.specs.Searches.{pick, from, placesIn, Inside, filter, found}
 use Rattle.search.proofs.Sets.{has, has-place}
 
 -- ---- the places of a set, ascending
@@ -96,10 +96,6 @@ cleared-in (b ∷ bs) zero (suc k) e = e
 cleared-in (b ∷ bs) (suc i) zero e = e
 cleared-in (b ∷ bs) (suc i) (suc k) e = cleared-in bs i k e
 
--- what is in t is in s
-abbrev pub Within : ℕ → ℕ → Type 0
-Within t s = (k : ℕ) → has t k ≡ true → has s k ≡ true
-
 pub none-listed : placesIn 0 ≡ []
 none-listed = places-listed 0 ∙ indices-none (members 0) (digits-empty 64 0 (omega arith) .1 refl)
 
@@ -131,7 +127,7 @@ module _ (t k : ℕ) (l : Lowest t k) where
     pub rest-count : suc (howMany (members r)) ≡ howMany (members t)
     rest-count = ap (λ (bs : List Bool). suc (howMany bs)) (rest ∙ ap (λ (i : ℕ). set (members t) i false) (sym (l .first))) ∙ count-cleared (members t) k lowest-in
 
-    pub rest-within : (s : ℕ) → Within t s → Within r s
+    pub rest-within : (s : ℕ) → Inside t s → Inside r s
     rest-within s h j e = h j (cleared-in (members t) (firstOf (members t)) j (subst (λ (bs : List Bool). getD bs j false ≡ true) rest e))
 
   -- a search for the first place at which a test holds
@@ -141,6 +137,10 @@ module _ (t k : ℕ) (l : Lowest t k) where
 
     pub search-misses : p k ≡ false → (r : ℕ) → members r ≡ set (members t) (firstOf (members t)) false → filter p (placesIn t) ≡ filter p (placesIn r)
     search-misses h r rest = ap (filter p) (lowest-rest r rest) ∙ filter-past p k (placesIn r) h
+
+-- the second place of a set is the lowest of the rest
+pub second-place : (t k : ℕ) → Lowest t k → (r : ℕ) → members r ≡ set (members t) (firstOf (members t)) false → (j : ℕ) → Lowest r j → getD (placesIn t) 1 0 ≡ j
+second-place t k l r rest j m = ap (λ (ks : List ℕ). getD ks 1 0) (lowest-rest t k l r rest) ∙ ap (λ (ks : List ℕ). getD ks 0 0) (lowest-first r j m)
 
 pub search-ends : (p : ℕ → Bool) (t : ℕ) → t ≡ 0 → found (filter p (placesIn t)) ≡ Nothing
 unfolding filter

@@ -7,9 +7,9 @@ use lib.ListN.{getD, set}
 use Rattle.bits.specs.Members.{members, firstOf, both}
 use Rattle.bits.proofs.Digits.{length-digits}
 use Rattle.search.specs.declared.Pair.the-variants.{Both, Neither}
-use Rattle.search.specs.Searches.{placesIn, touching, Incidence, filter, beside, pairIn}
+use Rattle.search.specs.Searches.{placesIn, Inside, touching, Incidence, filter, beside, pairIn}
 use Rattle.search.proofs.Sets.{has, has-zip, at-node}
-use Rattle.search.proofs.Marks.{places-listed, filter-indices, none-listed, Within, Lowest, lowest-first, lowest-rest}
+use Rattle.search.proofs.Marks.{places-listed, filter-indices, none-listed, Lowest, lowest-first, lowest-rest}
 
 -- of the places of r, all in use, those that are at both ends
 shared : (u s t r : Bool) → (r ≡ true → u ≡ true) → (((u && s) && (u && t)) && r) ≡ (r && (s && t))
@@ -21,7 +21,7 @@ pub record Turn (at as₁ bs : List ℕ) (alive t i r m q : ℕ) : Type 0 where
   pub incidence : Incidence at alive as₁ bs
   pub a-below : getD as₁ i 0 < 32
   pub b-below : getD bs i 0 < 32
-  pub within : Within r alive
+  pub within : Inside r alive
   pub lowest : Lowest t i
   pub rest : members r ≡ set (members t) (firstOf (members t)) false
   pub meet : members m ≡ both (members (getD at (getD as₁ i 0) 0)) (members (getD at (getD bs i 0) 0))

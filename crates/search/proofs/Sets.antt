@@ -1,5 +1,5 @@
 -- Sets of places, place by place.
-use Prim.Native.Nat.{ℕ, zero, suc, _+_, _/_, _^_, min, _≤_, _<_}
+use Prim.Native.Nat.{ℕ, zero, suc, _+_, _/_, _%_, _^_, min, _≤_, _<_}
 use mathlib.Core.Path.{_≡_, refl, sym, ap, _∙_}
 use mathlib.Core.List.{List, [], _∷_, zipWith, List·Memᴰ, List·Memᴰ·head, List·Memᴰ·tail, List·Memᴰ·not-nil}
 use mathlib.Core.Bool.{Bool, true, false, cond, not, _&&_, _||_, true≢false}
@@ -8,10 +8,13 @@ use native.Mathlib.Omega.{arith}
 use lib.Dec.{eqb}
 use lib.ListN.{length, getD, set}
 use lib.Seq.{getD-set-same, getD-set-other}
-use Rattle.bits.specs.Members.{digits, members}
+use lib.Pow.{pow-pos}
+use borrow.Author.Tests.{eq-eqb, ne-eqb}
+use Rattle.bits.specs.Members.{bitOf, digits, members}
 use Rattle.bits.proofs.Places.{getD-zipWith}
-use Rattle.bits.proofs.Digits.{length-digits}
+use Rattle.bits.proofs.Digits.{digitOf, lowest-digit, length-digits}
 use Rattle.reliability.specs.Networks.{Ascending}
+use Rattle.reliability.specs.Terminals.{has as listed}
 use Rattle.reliability.proofs.Lists.{by-eqb}
 use Rattle.search.specs.Searches.{pick, from, nodesIn, marked, touching, Incidence}
 
@@ -49,6 +52,22 @@ has-none p = none 64 p
 
 pub has-below : (s k p : ℕ) → s < 2 ^ k → has s p ≡ true → p < k
 has-below s k p = within 64 k s p
+
+-- a set whose places are all below j is below 2 ^ j
+fits : (k j n : ℕ) → n < 2 ^ k → ((p : ℕ) → getD (digits k n) p false ≡ true → p < j) → n < 2 ^ j
+unfolding digits
+fits zero j n l h = omega (arith, pow-pos j)
+fits (suc k) zero n l h =
+    let low : bitOf (n % 2) ≡ false = unset (bitOf (n % 2)) (h 0) in
+    omega (arith, lowest-digit n, ap digitOf low, fits k zero (n / 2) (omega (arith, pow-suc 2 k)) (λ p e. absurd (omega (arith, h (suc p) e))))
+  where
+    unset : (b : Bool) → (b ≡ true → 0 < 0) → b ≡ false
+    unset true h = absurd (omega (arith, h refl))
+    unset false h = refl
+fits (suc k) (suc j) n l h = omega (arith, pow-suc 2 j, fits k j (n / 2) (omega (arith, pow-suc 2 k)) (λ p e. omega (arith, h (suc p) e)))
+
+pub has-fits : (s k : ℕ) → s < 2 ^ 64 → ((p : ℕ) → has s p ≡ true → p < k) → s < 2 ^ k
+has-fits s k = fits 64 k s
 
 -- one place put into a set, or taken out
 has-set : (r s i : ℕ) (v : Bool) → members r ≡ set (members s) i v → i < 64 → (p : ℕ) → has r p ≡ cond (eqb p i) v (has s p)
@@ -108,6 +127,26 @@ mem-has s u m =
     let r = from-mem (members s) 0 64 m in
     let e : u ≡ r .0 = omega (arith, r .2) in
     rw e (r .1)
+
+pick-early : (bs : List Bool) (i k v : ℕ) → v < i → listed v (pick bs (from i k)) ≡ false
+unfolding pick from listed
+pick-early [] i k v h = refl
+pick-early (b ∷ bs) i zero v h = refl
+pick-early (true ∷ bs) i (suc k) v h = rw (ne-eqb i v (λ e. omega arith)) (pick-early bs (suc i) k v (omega arith))
+pick-early (false ∷ bs) i (suc k) v h = pick-early bs (suc i) k v (omega arith)
+
+pick-listed : (bs : List Bool) (i k p v : ℕ) → v ≡ i + p → length bs ≤ k → listed v (pick bs (from i k)) ≡ getD bs p false
+unfolding pick from listed
+pick-listed [] i k p v e h = refl
+pick-listed (b ∷ bs) i zero p v e h = absurd (omega arith)
+pick-listed (true ∷ bs) i (suc k) zero v e h = rw (eq-eqb i v (omega arith))
+pick-listed (false ∷ bs) i (suc k) zero v e h = pick-early bs (suc i) k v (omega arith)
+pick-listed (true ∷ bs) i (suc k) (suc p) v e h = rw (ne-eqb i v (λ q. omega arith)) (pick-listed bs (suc i) k p v (omega arith) (omega arith))
+pick-listed (false ∷ bs) i (suc k) (suc p) v e h = pick-listed bs (suc i) k p v (omega arith) (omega arith)
+
+-- a node is listed where it is in the set
+pub listed-has : (s v : ℕ) → listed v (nodesIn s) ≡ has s v
+listed-has s v = pick-listed (members s) 0 64 v v (omega arith) (omega (arith, length-digits 64 s))
 
 -- ---- the places in use at which a test of the two ends holds
 

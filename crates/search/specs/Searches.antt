@@ -34,9 +34,9 @@ placesIn s = pick (members s) (from 0 64)
 abbrev pub nodesIn : ℕ → List ℕ
 nodesIn = placesIn
 
--- each node of the set s is one of the set t
+-- what is in the set s is in the set t
 abbrev pub Inside : ℕ → ℕ → Type 0
-Inside s t = (v : ℕ) → getD (members s) v false ≡ true → getD (members t) v false ≡ true
+Inside s t = (p : ℕ) → getD (members s) p false ≡ true → getD (members t) p false ≡ true
 
 -- ---- the links at their places
 

@@ -1,7 +1,7 @@
 // The searches over the links in use, by place: numbers and arrays alone.
 ghost use mathlib.Core.Path.{_≡_};
-ghost use mathlib.Core.Bool.{cond};
-ghost use Prim.Native.Nat.{_+_, _^_, _<_};
+ghost use mathlib.Core.Bool.{cond, _&&_};
+ghost use Prim.Native.Nat.{ℕ, _+_, _^_, _<_};
 ghost use lib.ListN.{getD};
 ghost use lib.Dec.{eqb, leb};
 ghost use Rattle.bits.specs.Members.{members, howMany};
@@ -106,6 +106,14 @@ fn between<'r>(v: usize, s: u64, chosen: u64, a: &'r [u8; 64], b: &'r [u8; 64]) 
     bits::has(chosen, x as usize) && bits::has(chosen, y as usize)
 }
 
+// Whether there are two links at v, in the places of s, that can become one.
+fn in_line<'r>(v: usize, s: u64, chosen: u64, a: &'r [u8; 64], b: &'r [u8; 64]) -> bool
+    requires { ⌜ (v < 32) × Bounded s (now a) (now b) ⌝ }
+    ensures { λ r. ⌜ r ≡ (eqb (howMany (members s)) 2 && betweenAt chosen (now (a .entry)) (now (b .entry)) v s) ⌝ }
+{
+    is_two(s) && between(v, s, chosen, a, b)
+}
+
 // The lowest node with two links that can become one.
 pub fn lowest_in_line<'r>(nodes: u64, chosen: u64, at: &'r [u64; 32], a: &'r [u8; 64], b: &'r [u8; 64]) -> Found
     requires { ⌜ (nodes < 2 ^ 32) × ((v : ℕ) → v < 32 → Bounded (getD (now at) v 0) (now a) (now b)) ⌝ }
@@ -113,10 +121,9 @@ pub fn lowest_in_line<'r>(nodes: u64, chosen: u64, at: &'r [u64; 32], a: &'r [u8
 {
     let mut t = nodes;
     while t != 0 {
-        let v = bits::lowest(t);
-        let s = at[v];
-        if is_two(s) && between(v, s, chosen, a, b) {
-            return Found::At(v);
+        let mid = bits::lowest(t);
+        if in_line(mid, at[mid], chosen, a, b) {
+            return Found::At(mid);
         }
         t = bits::without_lowest(t);
     }

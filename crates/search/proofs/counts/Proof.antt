@@ -6,16 +6,16 @@ use lib.ListN.{length, getD, getD-replicate}
 use borrow.Author.Needs.{needs}
 use Rattle.bits.specs.Members.{members, howMany}
 use Rattle.bits.proofs.Operations.{cleared-fits}
-use Rattle.search.specs.Searches.{countAt}
+use Rattle.search.specs.Searches.{Inside, countAt}
 use Rattle.search.proofs.Sets.{has, has-none, has-below}
-use Rattle.search.proofs.Marks.{Within, Lowest, lowest-of, lowest-in, rest-count, rest-within}
+use Rattle.search.proofs.Marks.{Lowest, lowest-of, lowest-in, rest-count, rest-within}
 use Rattle.search.proofs.Largest.{places-most, all-counted, count-turn}
 use Rattle.search.proofs.counts.Statement.{statement}
 use Rattle.search.proofs.counts.Tie as tie
 
 -- all but the nodes that are left are counted
 abbrev Inv-loop : tie.InvT-loop
-Inv-loop nodes at counts₀ t₀ counts t = ((v : ℕ) → v < 32 → has t v ≡ false → getD counts v 0 ≡ countAt nodes at v) × (t < 2 ^ 32) × (length counts ≡ 32) × Within t nodes
+Inv-loop nodes at counts₀ t₀ counts t = ((v : ℕ) → v < 32 → has t v ≡ false → getD counts v 0 ≡ countAt nodes at v) × (t < 2 ^ 32) × (length counts ≡ 32) × Inside t nodes
 
 abbrev μ-loop : tie.MeasureT-loop
 μ-loop nodes at counts₀ t₀ counts t = howMany (members t)

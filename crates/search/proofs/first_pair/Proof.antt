@@ -4,14 +4,14 @@ use native.Mathlib.Omega.{arith}
 use lib.ListN.{getD}
 use borrow.Author.Needs.{needs}
 use Rattle.bits.specs.Members.{members, howMany}
-use Rattle.search.specs.Searches.{placesIn, beside, pairIn}
-use Rattle.search.proofs.Marks.{Within, Lowest, lowest-of, lowest-in, lowest-below, rest-count, rest-within}
+use Rattle.search.specs.Searches.{placesIn, Inside, beside, pairIn}
+use Rattle.search.proofs.Marks.{Lowest, lowest-of, lowest-in, lowest-below, rest-count, rest-within}
 use Rattle.search.proofs.Pairs.{Turn, pair-hits, pair-misses, pair-ends}
 use Rattle.search.proofs.first_pair.Statement.{statement}
 use Rattle.search.proofs.first_pair.Tie as tie
 
 abbrev Inv-loop : tie.InvT-loop
-Inv-loop alive at a b t₀ t = (pairIn (beside a b) (placesIn alive) ≡ pairIn (beside a b) (placesIn t)) × Within t alive × (t < 2 ^ 64)
+Inv-loop alive at a b t₀ t = (pairIn (beside a b) (placesIn alive) ≡ pairIn (beside a b) (placesIn t)) × Inside t alive × (t < 2 ^ 64)
 
 abbrev μ-loop : tie.MeasureT-loop
 μ-loop alive at a b t₀ t = howMany (members t)

@@ -5,15 +5,15 @@ use native.Mathlib.Omega.{arith}
 use lib.ListN.{getD}
 use borrow.Author.Needs.{needs}
 use Rattle.bits.specs.Members.{members, howMany}
-use Rattle.search.specs.Searches.{placesIn, countSum, largestIn}
-use Rattle.search.proofs.Marks.{Within, Lowest, lowest-of, lowest-in, lowest-below, lowest-rest, rest-count, rest-within}
+use Rattle.search.specs.Searches.{placesIn, Inside, countSum, largestIn}
+use Rattle.search.proofs.Marks.{Lowest, lowest-of, lowest-in, lowest-below, lowest-rest, rest-count, rest-within}
 use Rattle.search.proofs.Largest.{so-far, so-far-starts, so-far-more, so-far-on, so-far-ends}
 use Rattle.search.proofs.largest_sum.Statement.{statement}
 use Rattle.search.proofs.largest_sum.Tie as tie
 
 abbrev Inv-loop : tie.InvT-loop
 Inv-loop alive counts a b best₀ most₀ t₀ best most t =
-    (largestIn (countSum counts a b) (placesIn alive) ≡ so-far (countSum counts a b) best most (placesIn t)) × Within t alive × (t < 2 ^ 64)
+    (largestIn (countSum counts a b) (placesIn alive) ≡ so-far (countSum counts a b) best most (placesIn t)) × Inside t alive × (t < 2 ^ 64)
 
 abbrev μ-loop : tie.MeasureT-loop
 μ-loop alive counts a b best₀ most₀ t₀ best most t = howMany (members t)

@@ -1,26 +1,29 @@
 use Prim.Native.Nat.{ℕ, _^_, _<_}
 use mathlib.Core.Path.{_≡_, refl, sym, ap, _∙_}
-use mathlib.Core.Bool.{Bool}
+use mathlib.Core.Bool.{Bool, _&&_}
 use native.Mathlib.Omega.{arith}
 use lib.Dec.{eqb}
 use lib.ListN.{getD}
 use borrow.Author.Needs.{needs}
 use Rattle.bits.specs.Members.{members, howMany}
 use Rattle.bits.proofs.Operations.{cleared-fits}
-use Rattle.search.specs.Searches.{found, withLinks}
+use Rattle.search.specs.Searches.{found, betweenAt, inLine}
 use Rattle.search.proofs.Sets.{has-below}
 use Rattle.search.proofs.Marks.{Lowest, lowest-of, lowest-in, rest-count, search-hits, search-misses, search-ends}
-use Rattle.search.proofs.lowest_with.Statement.{statement}
-use Rattle.search.proofs.lowest_with.Tie as tie
+use Rattle.search.proofs.lowest_in_line.Statement.{statement}
+use Rattle.search.proofs.lowest_in_line.Tie as tie
 
 abbrev Inv-loop : tie.InvT-loop
-Inv-loop d nodes at t₀ t = (withLinks d at nodes ≡ withLinks d at t) × (t < 2 ^ 32)
+Inv-loop nodes chosen at a b t₀ t = (inLine chosen at a b nodes ≡ inLine chosen at a b t) × (t < 2 ^ 32)
 
 abbrev μ-loop : tie.MeasureT-loop
-μ-loop d nodes at t₀ t = howMany (members t)
+μ-loop nodes chosen at a b t₀ t = howMany (members t)
 
 abbrev test : (c : tie.Start Inv-loop μ-loop) → ℕ → Bool
-test c v = eqb (howMany (members (getD (c .args .at .now) v 0))) (c .args .d)
+test c v =
+    let s = c .args in
+    let here = getD (s .at .now) v 0 in
+    eqb (howMany (members here)) 2 && betweenAt (s .chosen) (s .a .now) (s .b .now) v here
 
 loop-holds : tie.Need-loop-holds Inv-loop μ-loop
 loop-holds c = (refl, search needs)
@@ -38,20 +41,22 @@ below c =
     let l = c .before .before .loop in
     has-below (l .t) 32 (c .lowest .result) (l .inv .1) (lowest-in _ _ (low c))
 
-mul-has-places : tie.Need-mul-has-places Inv-loop μ-loop
-mul-has-places c = record { fits = omega (arith, below c) }
+mul-in-line : tie.Need-mul-in-line Inv-loop μ-loop
+mul-in-line c = record { fits = omega (arith, below c) }
 
-element-copy-out-has-places : tie.Need-element-copy-out-has-places Inv-loop μ-loop
-element-copy-out-has-places c = below c
+element-copy-out-in-line : tie.Need-element-copy-out-in-line Inv-loop μ-loop
+element-copy-out-in-line c = below c
 
-has-places-requires : tie.Need-has-places-requires Inv-loop μ-loop
-has-places-requires c κs = search needs
+in-line-requires : tie.Need-in-line-requires Inv-loop μ-loop
+in-line-requires c κs =
+    let f = c .before in
+    (below f, f .before .before .before .pre .1 _ (below f))
 
 returns : tie.Need-returns Inv-loop μ-loop
 returns c =
     let f = c .before .before .before in
     let l = f .before .before in
-    sym (ap found (l .loop .inv .0) ∙ search-hits _ _ (low f) (test (l .before)) (sym (c .before .has-places .ensures) ∙ c .if1 .taken))
+    sym (ap found (l .loop .inv .0) ∙ search-hits _ _ (low f) (test (l .before)) (sym (c .before .in-line .ensures) ∙ c .if1 .taken))
 
 without-lowest-requires : tie.Need-without-lowest-requires Inv-loop μ-loop
 without-lowest-requires c κs = search needs
@@ -64,24 +69,24 @@ loop-again c =
     let f = c .before .before .before .before in
     let l = f .before .before in
     let rest = c .without-lowest .ensures in (
-      l .loop .inv .0 ∙ search-misses _ _ (low f) (test (l .before)) (sym (c .before .before .has-places .ensures) ∙ c .before .if1 .left) _ rest,
+      l .loop .inv .0 ∙ search-misses _ _ (low f) (test (l .before)) (sym (c .before .before .in-line .ensures) ∙ c .before .if1 .left) _ rest,
       cleared-fits _ _ _ (search needs) (l .loop .inv .1) rest,
     )
 
 returns-2 : tie.Need-returns-2 Inv-loop μ-loop
 returns-2 c = sym (ap found (c .before .loop .inv .0) ∙ search-ends (test (c .before .before)) (c .before .loop .t) (search needs))
 
-pub lowest-with-spec : {M : Type 1} → statement M
-lowest-with-spec =
+pub lowest-in-line-spec : {M : Type 1} → statement M
+lowest-in-line-spec =
     tie.close
     (tie.spec
     Inv-loop
     μ-loop
     loop-holds
     lowest-requires
-    mul-has-places
-    element-copy-out-has-places
-    has-places-requires
+    mul-in-line
+    element-copy-out-in-line
+    in-line-requires
     returns
     without-lowest-requires
     loop-less

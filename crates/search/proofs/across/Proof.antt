@@ -1,6 +1,6 @@
 use borrow.Author.Tests.{eq-eqb, ne-eqb}
-use Rattle.parts.proofs.across.Statement.{statement}
-use Rattle.parts.proofs.across.Tie as tie
+use Rattle.search.proofs.across.Statement.{statement}
+use Rattle.search.proofs.across.Tie as tie
 
 returns : tie.Need-returns
 returns c = simp (eq-eqb _ _ (c .if1 .taken))
