@@ -1,38 +1,59 @@
 -- The invariant, kept by what a network becomes.
-use Prim.Native.Nat.{ℕ, _<_}
+use Prim.Native.Nat.{ℕ, zero, suc, _-_, _<_}
 use mathlib.Core.Path.{_≡_, sym, ap, ap₂, subst, _∙_}
 use mathlib.Core.Logic.{⊎-elim}
-use mathlib.Core.List.{List, List·Memᴰ}
+use mathlib.Core.List.{List, [], _∷_, List·Memᴰ}
 use mathlib.Core.Bool.{Bool, true, false, cond, not, _&&_, or-comm}
 use native.Mathlib.Omega.{arith}
 use lib.Dec.{eqb}
-use lib.ListN.{getD, set, replicate, getD-replicate, length-replicate}
+use lib.ListN.{length, getD, set, replicate, getD-replicate, length-replicate}
 use borrow.Author.Tests.{eqb-false, ne-eqb}
 use Rattle.reliability.specs.declared.Step.{Step}
 use Rattle.reliability.specs.declared.Step.the-variants.{End, Series}
 use Rattle.reliability.specs.declared.Link.{Link}
-use Rattle.reliability.specs.Networks.{Network as Graph, Valid, Proper}
-use Rattle.reliability.specs.Rule.{isLoop, next, leaves, deleted, removed, joined, inSeries, across, contracted}
-use Rattle.reliability.proofs.Validity.{proper-at, deleted-valid, contracted-valid}
-use Rattle.reliability.proofs.Steps.{Fits, fits, Leg, AtSeries}
-use Rattle.reliability.proofs.Unrolled.{below-scaled}
+use Rattle.reliability.specs.Networks.{Ascending, Proper}
+use Rattle.reliability.specs.Rule.{isLoop, across}
+use Rattle.reliability.specs.Terminals.{Terminals, Chosen, among, has as listing, next, endLeft, seriesLeft, soundLeft, brokenLeft, leaves}
+use Rattle.reliability.proofs.Validity.{deleted-valid}
+use Rattle.reliability.proofs.Steps.{Leg, AtSeries}
+use Rattle.reliability.proofs.Chosen.{has-mem}
+use Rattle.reliability.proofs.TerminalSteps.{Fits, fits, sound-terminals}
+use Rattle.reliability.proofs.Unrolled.{below-factored}
 use Rattle.bits.specs.Members.{members}
-use Rattle.search.specs.Searches.{touching, Incidence}
-use Rattle.search.proofs.Sets.{has, has-none, has-without, has-below, mem-has}
+use Rattle.search.specs.Searches.{pick, from, nodesIn, touching, Incidence}
+use Rattle.search.proofs.Sets.{has, has-none, has-without, has-below, from-mem, mem-has, listed-has}
 use Rattle.parts.specs.Tallies.{Written}
 use Rattle.parts.proofs.Laws.{counted, taken, added, turned}
 use Rattle.network.specs.declared.Network.{Network}
-use Rattle.network.specs.Places.{networkOf, nodesOf, indexOf, linkOf, Used, Invariant, Built, ranked, Fitting, Sized}
+use Rattle.network.specs.Places.{networkOf, terminalsOf, linksOf, nodesOf, chosenOf, indexOf, linkOf, Used, Invariant, Built, ranked, Fitting, Sized}
 use Rattle.network.proofs.Picks.{rowAt, allRows, link-at, index-within, deleted-links, built-free}
 use Rattle.network.proofs.Ends.{bounded}
 
+-- the nodes of a set are in ascending order
+pick-ascending : (bs : List Bool) (i k : ℕ) → Ascending (pick bs (from i k))
+unfolding pick from Ascending
+pick-ascending [] i k = tt
+pick-ascending (b ∷ bs) i zero = tt
+pick-ascending (true ∷ bs) i (suc k) = (λ u m. omega (arith, from-mem bs (suc i) k m .2), pick-ascending bs (suc i) k)
+pick-ascending (false ∷ bs) i (suc k) = pick-ascending bs (suc i) k
+
+-- a node of a set is listed
+pub listed : (s v : ℕ) → has s v ≡ true → List·Memᴰ v (nodesIn s)
+listed s v h = has-mem v (nodesIn s) (listed-has s v ∙ h)
+
+-- the chosen nodes of a network by value are nodes, each named once
+pub chosen-of : (n : Network) → Invariant n → Chosen (terminalsOf n)
+chosen-of n holds = record { valid = holds .valid; ascending = pick-ascending (members (n .chosen)) 0 64; nodes = λ v m. listed (n .nodes) v (holds .inside v (mem-has (n .chosen) v m)) }
+
 -- r stands for g, which is valid, and its tallies are right
-pub stands : (r : Network) {g : Graph} → networkOf r ≡ g → Valid g → Incidence (r .at) (r .alive) (r .a) (r .b) → (networkOf r ≡ g) × Invariant r
-stands r e valid tallies = (e, record { valid = subst Valid (sym e) valid; tallies = tallies })
+pub stands : (r : Network) {g : Terminals} → terminalsOf r ≡ g → Chosen g → Incidence (r .at) (r .alive) (r .a) (r .b) → (terminalsOf r ≡ g) × Invariant r
+stands r e valid tallies =
+    let own = subst Chosen (sym e) valid in
+    (e, record { valid = own .valid; inside = λ v h. mem-has (r .nodes) v (own .nodes v (listed (r .chosen) v h)); tallies = tallies })
 
 module _ (n : Network) (holds : Invariant n) where
-  abbrev g : Graph
-  g = networkOf n
+  abbrev g : Terminals
+  g = terminalsOf n
 
   -- s is the step that fits
   module _ (s : Step) (fitting : Fitting n s) where
@@ -40,19 +61,23 @@ module _ (n : Network) (holds : Invariant n) where
     by-rule = ap (leaves g) (sym (fitting .by-rule))
 
     pub known : Fits g (ranked n s)
-    known = subst (Fits g) (sym (fitting .by-rule)) (fits g (holds .valid))
+    known = subst (Fits g) (sym (fitting .by-rule)) (fits g (chosen-of n holds))
 
-  pub end-valid : (v i : ℕ) → Fitting n (End v i) → Valid (removed v (deleted (indexOf n i) g))
+  pub end-valid : (v i : ℕ) → Fitting n (End v i) → Chosen (endLeft v (indexOf n i) g)
   unfolding leaves ranked
-  end-valid v i f = below-scaled g (holds .valid) _ _ (by-rule (End v i) f) .valid
+  end-valid v i f = below-factored g (chosen-of n holds) (listing v (chosenOf n)) _ _ (by-rule (End v i) f) .valid
 
-  pub series-valid : (v i j : ℕ) → Fitting n (Series v i j) → Valid (removed v (joined (indexOf n i) (indexOf n j) (inSeries v (linkOf n i) (linkOf n j)) g))
+  pub series-valid : (v i j : ℕ) → Fitting n (Series v i j) → Chosen (seriesLeft v (indexOf n i) (indexOf n j) g)
   unfolding leaves ranked
-  series-valid v i j f = below-scaled g (holds .valid) _ _ (by-rule (Series v i j) f) .valid
+  series-valid v i j f = below-factored g (chosen-of n holds) (listing v (chosenOf n)) _ _ (by-rule (Series v i j) f) .valid
 
-  pub sound-valid : Sized n → (i : ℕ) → Used n i → isLoop (linkOf n i) ≡ false → Valid (contracted (linkOf n i) (deleted (indexOf n i) g))
+  pub sound-valid : Sized n → (i : ℕ) → Used n i → isLoop (linkOf n i) ≡ false → Chosen (soundLeft (indexOf n i) g)
   sound-valid sized i u no-loop =
-      contracted-valid (deleted (indexOf n i) g) (deleted-valid g (holds .valid) (indexOf n i)) (linkOf n i) (proper-at g (holds .valid) (indexOf n i) (index-within n sized i u)) (eqb-false _ _ no-loop)
+      let place = index-within n sized i u in
+      sound-terminals (length (linksOf n) - 1) g (record { valid = chosen-of n holds; size = omega arith }) (indexOf n i) (record { place = place; differ = eqb-false _ _ no-loop }) .valid
+
+  pub broken-valid : (i : ℕ) → Chosen (brokenLeft i g)
+  broken-valid i = let own = chosen-of n holds in record { valid = deleted-valid (networkOf n) (holds .valid) i; ascending = own .ascending; nodes = own .nodes }
 
 -- the ends of a link in use
 module _ (n : Network) (sized : Sized n) (holds : Invariant n) (i : ℕ) (u : Used n i) where
@@ -93,7 +118,7 @@ across-below v a b {w} h e = go (eqb a v) e
 module _ (n : Network) (sized : Sized n) (holds : Invariant n) (v i j : ℕ) (fitting : Fitting n (Series v i j)) where
   at-series : AtSeries (networkOf n) v (indexOf n i) (indexOf n j)
   unfolding ranked
-  at-series = known n holds (Series v i j) fitting
+  at-series = known n holds (Series v i j) fitting .two
 
   leg : Leg v (rowAt n i)
   leg = subst (Leg v) (link-at n sized i (fitting .placed .1)) (at-series .first)
@@ -116,7 +141,7 @@ module _ (n : Network) (sized : Sized n) (holds : Invariant n) (v i j : ℕ) (fi
 -- link i goes
 pub deletes : (n : Network) (sized : Sized n) (holds : Invariant n) (i : ℕ) (u : Used n i) (others : ℕ) (one two : List ℕ) → members others ≡ set (members (n .alive)) i false
     → Written false (getD (n .a) i 0) i (n .at) one → Written false (getD (n .b) i 0) i one two
-    → let r : Network = record { alive = others; at = two; low = n .low; high = n .high; a = n .a; b = n .b; nodes = n .nodes } in (networkOf r ≡ deleted (indexOf n i) (networkOf n)) × Invariant r
+    → let r : Network = record { alive = others; at = two; low = n .low; high = n .high; a = n .a; b = n .b; nodes = n .nodes; chosen = n .chosen } in (terminalsOf r ≡ brokenLeft (indexOf n i) (terminalsOf n)) × Invariant r
 deletes n sized holds i u others one two cleared first second =
     let links = deleted-links n others i (allRows n) u cleared in
-    stands _ (λ t. record { nodes = nodesOf n; links = links t }) (deleted-valid (networkOf n) (holds .valid) (indexOf n i)) (taken-out n sized holds i u others one two cleared first second)
+    stands _ (λ t. among (chosenOf n) (record { nodes = nodesOf n; links = links t })) (broken-valid n holds (indexOf n i)) (taken-out n sized holds i u others one two cleared first second)

@@ -8,13 +8,13 @@ use lib.ListN.{getD, set}
 use borrow.Author.Tests.{eqb-false}
 use Rattle.bits.specs.Members.{members}
 use Rattle.reliability.specs.declared.Link.{Link}
-use Rattle.reliability.specs.Networks.{Network as Graph}
 use Rattle.reliability.specs.Rule.{isLoop, without, rename, renamed, deleteAt, deleted, contracted}
-use Rattle.search.specs.Searches.{pick, marked, touching, Incidence}
+use Rattle.reliability.specs.Terminals.{Terminals, among, into, soundLeft}
+use Rattle.search.specs.Searches.{pick, nodesIn, marked, touching, Incidence}
 use Rattle.parts.specs.Tallies.{Written, Merged, changedAt}
 use Rattle.parts.proofs.Laws.{merged, renamed-touching}
 use Rattle.network.specs.declared.Network.{Network}
-use Rattle.network.specs.Places.{rows, networkOf, linksOf, nodesOf, indexOf, linkOf, Used, Invariant, Sized}
+use Rattle.network.specs.Places.{rows, networkOf, terminalsOf, linksOf, nodesOf, chosenOf, indexOf, linkOf, Used, Invariant, Sized}
 use Rattle.network.proofs.Picks.{Even, none, more, all-even, row, allRows, link-at, deleted-links}
 use Rattle.network.proofs.Kept.{stands, sound-valid, ends-below, taken-out}
 
@@ -45,12 +45,12 @@ module _ (n : Network) (sized : Sized n) (holds : Invariant n) (i : ℕ) (u : Us
       let at = link-at n sized i u in
       apart (ap (λ (l : Link). l .a) at ∙ omega arith ∙ sym (ap (λ (l : Link). l .b) at))
 
-  module _ (others nodes moved : ℕ) (one two three as₁ bs : List ℕ) (cleared : members others ≡ set (members (n .alive)) i false) (left : nodesOf (record { alive = others; at = three; low = n .low; high = n .high; a = as₁; b = bs; nodes = nodes }) ≡ without gone (nodesOf n))
+  module _ (others nodes chosen moved : ℕ) (one two three as₁ bs : List ℕ) (cleared : members others ≡ set (members (n .alive)) i false) (left : nodesIn nodes ≡ without gone (nodesOf n)) (made-one : nodesIn chosen ≡ into keep gone (chosenOf n))
       (first : Written false (getD (n .a) i 0) i (n .at) one) (second : Written false (getD (n .b) i 0) i one two)
       (were : members moved ≡ members (getD two gone 0)) (third : Merged keep gone two three)
       (a-renamed : as₁ ≡ changedAt (rename keep gone) (members moved) (n .a)) (b-renamed : bs ≡ changedAt (rename keep gone) (members moved) (n .b)) where
     abbrev r : Network
-    r = record { alive = others; at = three; low = n .low; high = n .high; a = as₁; b = bs; nodes = nodes }
+    r = record { alive = others; at = three; low = n .low; high = n .high; a = as₁; b = bs; nodes = nodes; chosen = chosen }
 
     taken : Incidence two others (n .a) (n .b)
     taken = taken-out n sized holds i u others one two cleared first second
@@ -63,18 +63,19 @@ module _ (n : Network) (sized : Sized n) (holds : Invariant n) (i : ℕ) (u : Us
         ∙ links-renamed (all-even n sized) (members others) keep gone
         ∙ ap (map (renamed keep gone)) (deleted-links n others i (allRows n) u cleared)
 
-    stood : networkOf r ≡ contracted (linkOf n i) (deleted (indexOf n i) (networkOf n))
+    stood : terminalsOf r ≡ soundLeft (indexOf n i) (terminalsOf n)
     stood =
         let g = deleted (indexOf n i) (networkOf n) in
-        let merged : networkOf r ≡ record { nodes = without gone (g .nodes); links = map (renamed keep gone) (g .links) } = λ t. record { nodes = left t; links = links t } in
+        let merged : terminalsOf r ≡ among (into keep gone (chosenOf n)) (record { nodes = without gone (g .nodes); links = map (renamed keep gone) (g .links) }) =
+        λ t. among (made-one t) (record { nodes = left t; links = links t }) in
         merged
-        ∙ ap₂ {C = Graph} (λ (k v : ℕ). record { nodes = without v (g .nodes); links = map (renamed k v) (g .links) }) smaller larger
-        ∙ ap (λ (e : Link). contracted e g) (sym (link-at n sized i u))
+        ∙ ap₂ {C = Terminals} (λ (k v : ℕ). among (into k v (chosenOf n)) (record { nodes = without v (g .nodes); links = map (renamed k v) (g .links) })) smaller larger
+        ∙ ap (λ (e : Link). among (into (min (e .a) (e .b)) (max (e .a) (e .b)) (chosenOf n)) (contracted e g)) (sym (link-at n sized i u))
 
     tallies : Incidence three others as₁ bs
     tallies =
         subst₂ (λ (x y : List ℕ). Incidence three others x y) (sym a-renamed) (sym b-renamed)
         (merged two (n .a) (n .b) others (record { a-length = sized .a-length; b-length = sized .b-length }) taken keep gone moved three keep-below gone-below differ were third)
 
-    pub contracts : (networkOf r ≡ contracted (linkOf n i) (deleted (indexOf n i) (networkOf n))) × Invariant r
+    pub contracts : (terminalsOf r ≡ soundLeft (indexOf n i) (terminalsOf n)) × Invariant r
     contracts = stands r stood (sound-valid n holds sized i u no-loop) tallies

@@ -2,7 +2,7 @@
 use Prim.Native.Nat.{ℕ, zero, suc, _≤_, _<_}
 use mathlib.Core.Path.{_≡_, refl, sym, ap, ap₂, fun-ext, _∙_}
 use mathlib.Core.List.{List, [], _∷_, map, map-map, List·Memᴰ, List·Memᴰ·head, List·Memᴰ·tail}
-use mathlib.Core.Bool.{Bool, true, false, _&&_, _||_, and-false, or-false}
+use mathlib.Core.Bool.{Bool, true, false, not, _&&_, _||_, and-false, or-false, and-eq-true-iff}
 use mathlib.Core.Option.{Option, some, none, Option·map}
 use native.Mathlib.Omega.{arith}
 use lib.Dec.{eqb}
@@ -13,15 +13,16 @@ use Rattle.bits.proofs.Digits.{length-digits}
 use Rattle.reliability.specs.declared.Link.{Link}
 use Rattle.reliability.specs.declared.Step.{Step}
 use Rattle.reliability.specs.declared.Step.the-variants.{End, Series}
-use Rattle.reliability.specs.Rule.{isLoop, touches, alike, firstAt, places, firstPair, sucs, endOf, seriesOf, lowest, when}
+use Rattle.reliability.specs.Rule.{isLoop, touches, alike, firstAt, places, firstPair, sucs, endOf, lowest, when, across}
+use Rattle.reliability.specs.Terminals.{Terminals, has as listing, between, seriesIn}
 use Rattle.reliability.proofs.Searches.{nth}
 use Rattle.network.specs.declared.Network.{Network}
 use Rattle.search.specs.declared.Pair.{Pair}
 use Rattle.search.specs.declared.Pair.the-variants.{Both, Neither}
-use Rattle.search.specs.Searches.{pick, placesIn, touching, Incidence, filter, loops, beside, pairIn, withLinks}
-use Rattle.network.specs.Places.{rank, linksOf, nodesOf, indexOf, Sized, Invariant, tally}
-use Rattle.search.proofs.Sets.{has-below, mem-has, at-node}
-use Rattle.network.proofs.Picks.{rows-at, allRows, rowAt, all-even, length-all}
+use Rattle.search.specs.Searches.{pick, placesIn, touching, Incidence, filter, loops, beside, pairIn, withLinks, acrossAt, betweenAt, inLine}
+use Rattle.network.specs.Places.{rank, terminalsOf, linksOf, nodesOf, chosenOf, indexOf, linkOf, Sized, Invariant, tally}
+use Rattle.search.proofs.Sets.{has, has-place, has-below, mem-has, listed-has, at-node}
+use Rattle.network.proofs.Picks.{rows-at, allRows, rowAt, all-even, length-all, link-at}
 use Rattle.search.proofs.Marks.{indices, places-listed, length-places, filter-suc, filter-indices, same-test}
 use Rattle.search.proofs.Answers.{first, filter-none}
 
@@ -144,11 +145,12 @@ end-list v [] = refl
 end-list v (i ∷ []) = refl
 end-list v (i ∷ (j ∷ r)) = ap (λ (b : Bool). when b (End v i)) (sym (ne-eqb (suc (suc (length r))) 1 (λ e. omega arith)))
 
-series-list : (v : ℕ) (is : List ℕ) → seriesOf v is ≡ when (eqb (length is) 2) (Series v (getD is 0 0) (getD is 1 0))
-series-list v [] = refl
-series-list v (i ∷ []) = refl
-series-list v (i ∷ (j ∷ [])) = refl
-series-list v (i ∷ (j ∷ (k ∷ r))) = ap (λ (b : Bool). when b (Series v i j)) (sym (ne-eqb (suc (suc (suc (length r)))) 2 (λ e. omega arith)))
+series-list : (g : Terminals) (v : ℕ) (is : List ℕ) → seriesIn g v is ≡ when (eqb (length is) 2 && between g v (getD is 0 0) (getD is 1 0)) (Series v (getD is 0 0) (getD is 1 0))
+series-list g v [] = refl
+series-list g v (i ∷ []) = refl
+series-list g v (i ∷ (j ∷ [])) = refl
+series-list g v (i ∷ (j ∷ (k ∷ r))) =
+    ap (λ (b : Bool). when (b && between g v i j) (Series v i j)) (sym (ne-eqb (suc (suc (suc (length r)))) 2 (λ e. omega arith)))
 
 lowest-where : (rule : ℕ → List ℕ → Option Step) (es : List Link) (p : ℕ → Bool) (g : ℕ → Step) (vs : List ℕ)
     → ((v : ℕ) → List·Memᴰ v vs → rule v (places (touches v) es) ≡ when (p v) (g v)) → lowest rule es vs ≡ Option·map g (first (filter p vs))
@@ -197,22 +199,62 @@ module _ (n : Network) (sized : Sized n) where
         (at-node at (n .a) (n .b) (n .alive) incidence v h)
         ∙ sym (places-listed (getD at v 0)))
 
-    -- a rule that fits a node with d links
-    module _ (rule : ℕ → List ℕ → Option Step) (d : ℕ) (g : ℕ → List ℕ → Step) (fits : (v : ℕ) (is : List ℕ) → rule v is ≡ when (eqb (length is) d) (g v is)) where
-      lowest-rule : lowest rule (linksOf n) (nodesOf n) ≡ Option·map (λ v. g v (map (indexOf n) (placesIn (getD at v 0)))) (first (withLinks d at (n .nodes)))
-      lowest-rule =
-          lowest-where rule (linksOf n) (λ v. eqb (howMany (members (getD at v 0))) d) (λ v. g v (map (indexOf n) (placesIn (getD at v 0)))) (nodesOf n)
-          (λ v m. let s = getD at v 0 in
-          ap (rule v) (node-places v (has-below (n .nodes) 32 v (sized .nodes) (mem-has (n .nodes) v m)))
-          ∙ fits v (map (indexOf n) (placesIn s))
-          ∙ ap (λ (l : ℕ). when (eqb l d) (g v (map (indexOf n) (placesIn s)))) (length-map (placesIn s) (indexOf n) ∙ length-places s))
+    node-below : (v : ℕ) → List·Memᴰ v (nodesOf n) → v < 32
+    node-below v m = has-below (n .nodes) 32 v (sized .nodes) (mem-has (n .nodes) v m)
+
+    -- as many as it has places
+    count : (s : ℕ) → length (map (indexOf n) (placesIn s)) ≡ howMany (members s)
+    count s = length-map (placesIn s) (indexOf n) ∙ length-places s
 
     pub end-rule : lowest endOf (linksOf n) (nodesOf n) ≡ Option·map (λ v. End v (getD (map (indexOf n) (placesIn (getD at v 0))) 0 0)) (first (withLinks 1 at (n .nodes)))
-    end-rule = lowest-rule endOf 1 (λ v is. End v (getD is 0 0)) end-list
+    end-rule =
+        lowest-where endOf (linksOf n) (λ v. eqb (howMany (members (getD at v 0))) 1) (λ v. End v (getD (map (indexOf n) (placesIn (getD at v 0))) 0 0)) (nodesOf n)
+        (λ v m. let s = getD at v 0 in
+        ap (endOf v) (node-places v (node-below v m))
+        ∙ end-list v (map (indexOf n) (placesIn s))
+        ∙ ap (λ (l : ℕ). when (eqb l 1) (End v (getD (map (indexOf n) (placesIn s)) 0 0))) (count s))
 
-    pub series-rule : lowest seriesOf (linksOf n) (nodesOf n)
-        ≡ Option·map (λ v. let is = map (indexOf n) (placesIn (getD at v 0)) in Series v (getD is 0 0) (getD is 1 0)) (first (withLinks 2 at (n .nodes)))
-    series-rule = lowest-rule seriesOf 2 (λ v is. Series v (getD is 0 0) (getD is 1 0)) series-list
+    -- a link at a node, by its place
+    link-there : (v k : ℕ) → v < 32 → List·Memᴰ k (placesIn (getD at v 0)) → linkOf n k ≡ rowAt n k
+    link-there v k h m =
+        let used = and-eq-true-iff (has (n .alive) k) (touching v (getD (n .a) k 0) (getD (n .b) k 0)) .0 (sym (at-node at (n .a) (n .b) (n .alive) incidence v h k) ∙ mem-has (getD at v 0) k m) .0 in
+        link-at n sized k (record { below = has-place (n .alive) k used; used = used })
+
+    -- whether a node's two links can become one, by places
+    between-there : (v : ℕ) → v < 32 → let s = getD at v 0 in let is = map (indexOf n) (placesIn s) in
+        (eqb (howMany (members s)) 2 && between (terminalsOf n) v (getD is 0 0) (getD is 1 0)) ≡ (eqb (howMany (members s)) 2 && betweenAt (n .chosen) (n .a) (n .b) v s)
+    between-there v h = go (placesIn s) (λ k m. link-there v k h m) (sym (length-places s))
+      where
+        s : ℕ
+        s = getD at v 0
+
+        by-list : ℕ → List ℕ → Bool
+        by-list c ks = eqb c 2 && (not (has (n .chosen) v) || (has (n .chosen) (acrossAt (n .a) (n .b) v (getD ks 0 0)) && has (n .chosen) (acrossAt (n .a) (n .b) v (getD ks 1 0))))
+
+        two : (i j : ℕ) → linkOf n i ≡ rowAt n i → linkOf n j ≡ rowAt n j
+            → between (terminalsOf n) v (indexOf n i) (indexOf n j) ≡ (not (has (n .chosen) v) || (has (n .chosen) (acrossAt (n .a) (n .b) v i) && has (n .chosen) (acrossAt (n .a) (n .b) v j)))
+        two i j p q =
+            ap₂ (λ (x : Bool) (y : Bool). not x || y) (listed-has (n .chosen) v)
+            (ap₂ _&&_ (ap (λ (e : Link). listing (across v e) (chosenOf n)) p ∙ listed-has (n .chosen) _) (ap (λ (e : Link). listing (across v e) (chosenOf n)) q ∙ listed-has (n .chosen) _))
+
+        go : (ks : List ℕ) → ((k : ℕ) → List·Memᴰ k ks → linkOf n k ≡ rowAt n k) → {c : ℕ} → c ≡ length ks
+            → (eqb c 2 && between (terminalsOf n) v (getD (map (indexOf n) ks) 0 0) (getD (map (indexOf n) ks) 1 0)) ≡ by-list c ks
+        go [] known e = rw (e, by-list)
+        go (i ∷ []) known e = rw (e, by-list)
+        go (i ∷ (j ∷ [])) known {c} e = ap (λ (b : Bool). eqb c 2 && b) (two i j (known i (List·Memᴰ·head refl)) (known j (List·Memᴰ·tail (List·Memᴰ·head refl))))
+        go (i ∷ (j ∷ (k ∷ ks))) known {c} e = rw (ne-eqb c 2 (λ z. omega arith), by-list)
+
+    pub series-rule : lowest (seriesIn (terminalsOf n)) (linksOf n) (nodesOf n)
+        ≡ Option·map (λ v. let is = map (indexOf n) (placesIn (getD at v 0)) in Series v (getD is 0 0) (getD is 1 0)) (first (inLine (n .chosen) at (n .a) (n .b) (n .nodes)))
+    series-rule =
+        lowest-where (seriesIn (terminalsOf n)) (linksOf n) (λ v. eqb (howMany (members (getD at v 0))) 2 && betweenAt (n .chosen) (n .a) (n .b) v (getD at v 0))
+        (λ v. let is = map (indexOf n) (placesIn (getD at v 0)) in Series v (getD is 0 0) (getD is 1 0)) (nodesOf n)
+        (λ v m. let s = getD at v 0 in
+        let is = map (indexOf n) (placesIn s) in
+        ap (seriesIn (terminalsOf n) v) (node-places v (node-below v m))
+        ∙ series-list (terminalsOf n) v is
+        ∙ ap (λ (l : ℕ). when (eqb l 2 && between (terminalsOf n) v (getD is 0 0) (getD is 1 0)) (Series v (getD is 0 0) (getD is 1 0))) (count s)
+        ∙ ap (λ (b : Bool). when b (Series v (getD is 0 0) (getD is 1 0))) (between-there v (node-below v m)))
 
 -- a node's tally is the number of links at it, counted anew
 pub tally-counted : (n : Network) → Sized n → Invariant n → (v : ℕ) → v < 32 → tally n v ≡ length (places (touches v) (linksOf n))

@@ -19,7 +19,7 @@ use Rattle.reliability.specs.declared.Step.{Step}
 use Rattle.reliability.specs.declared.Step.the-variants.{OneNode, Disconnected, Loop, Parallel, End, Series, Split}
 use Rattle.reliability.specs.Networks.{Network, Ascending, Proper, value, ends, linkAt, connected}
 use Rattle.reliability.specs.Rule.{isLoop, touches, firstAt, firstPair, places, lowest, endOf, when, _otherwise_, without, deleted, removed, joined, across, Remainder, settled}
-use Rattle.reliability.specs.Terminals.{Terminals, among, Chosen, has, into, astray, between, seriesIn, nextAt, splitAt, next, inLine, endLeft, seriesLeft, factored, leaves, stepAt}
+use Rattle.reliability.specs.Terminals.{Terminals, among, Chosen, has, into, astray, between, seriesIn, nextAt, splitAt, next, inLine, endLeft, seriesLeft, soundLeft, factored, leaves, stepAt}
 use Rattle.reliability.proofs.Lists.{mem-without, without-mem}
 use Rattle.reliability.proofs.Searches.{Answers, Holds, Fails, first-at, Placed, Pair, Distinct, first-pair, lowest-of}
 use Rattle.reliability.proofs.States.{onto-kept}
@@ -287,6 +287,10 @@ module _ (m : ℕ) (g : Terminals) (h : SizedTerminals (suc m) g) where
   end-terminals : (v i : ℕ) → AtEnd n v i → SizedTerminals m (endLeft v i g)
   end-terminals v i k = into-sized _ v (across-node (n .nodes) v (linkAt n i) (proper-in (k .place))) (k .leg .differ) (removed v (deleted i n)) (end-sized m n plain v i k) refl
 
+  pub sound-terminals : (i : ℕ) → AtSplit n i → SizedTerminals m (soundLeft i g)
+  sound-terminals i k =
+      into-sized _ _ (smaller-node (n .nodes) (linkAt n i) (proper-in (k .place))) (λ q. k .differ (omega arith)) _ (contracted-sized m n plain i k) refl
+
   factored-left : (b : Bool) (k : Direction → ℕ) → ((d : Direction) → k d ≤ S) → (r : Terminals) → SizedTerminals m r → Leaves (SizedTerminals m) (factored b k r)
   factored-left true k range r s = (s, range)
   factored-left false k range r s = s
@@ -304,13 +308,7 @@ module _ (m : ℕ) (g : Terminals) (h : SizedTerminals (suc m) g) where
       let p : Proper (n .nodes) (linkAt n i) = proper-in (omega arith) in
       let q = proper-in (t .place) in
       factored-left (has v cs) _ (λ d. factor-range d _ _ (p .range d) (q .range d)) _ (series-sized v i j t)
-  left-in (Split i) s =
-      let k = s .0 in
-      let p = proper-in (k .place) in (
-        into-sized _ _ (smaller-node (n .nodes) (linkAt n i) p) (λ q. k .differ (omega arith)) _ (contracted-sized m n plain i k) refl,
-        kept (deleted i n) (deleted-sized m n plain (k .place)) refl,
-        p .range,
-      )
+  left-in (Split i) s = let k = s .0 in (sound-terminals i k, kept (deleted i n) (deleted-sized m n plain (k .place)) refl, proper-in (k .place) .range)
 
 pub settled-in : (g : Terminals) → length (g .network .links) ≡ 0 → (s : Step) → Fits g s → (k : ℕ) × (k ≤ S) × (leaves g s ≡ settled k)
 unfolding leaves

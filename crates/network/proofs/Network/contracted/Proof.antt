@@ -57,21 +57,35 @@ without-node-requires c κs =
     let h = c .before .before .before .before .before .before .before .before .before .before in
     omega (arith, e, h .before .lower .ensures, h .higher .ensures)
 
+cast-into : tie.Need-cast-into
+cast-into c = search needs
+
+cast-into-2 : tie.Need-cast-into-2
+cast-into-2 c = search needs
+
+into-requires : tie.Need-into-requires
+into-requires c κs =
+    let s = c .before .before .before .before .before .before .before .before .before .before .before .before .before .before .before in
+    let e = ends-below (s .args .t1) (sized s) (s .pre .0) (s .args .i) (s .pre .1) in
+    let higher = c .before .before .before .before .before .before .before .before .before .before .before .higher .ensures in
+    let lower = c .before .before .before .before .before .before .before .before .before .before .before .before .lower .ensures in
+    (omega (arith, e, lower, higher), omega (arith, e, lower, higher))
+
 without-requires : tie.Need-without-requires
 without-requires c κs = search needs
 
 returns : tie.Need-returns
 returns c =
-    let y = c .before .before .rename2 in
-    let x = c .before .before .before .before .rename in
-    let m = c .before .before .before .before .before .before .merge in
-    let two = c .before .before .before .before .before .before .before .before .take-out2 in
-    let one = c .before .before .before .before .before .before .before .before .before .before .take-out in
-    let higher = c .before .before .before .before .before .before .before .before .before .before .before .before .higher in
-    let lower = c .before .before .before .before .before .before .before .before .before .before .before .before .before .lower in
-    let s = c .before .before .before .before .before .before .before .before .before .before .before .before .before .before .before .before in
-    contracts (s .args .t1) (sized s) (s .pre .0) (s .args .i) (s .pre .1) (s .pre .2) (lower .result) (higher .result) (lower .ensures) (higher .ensures) (c .without .result) (c .before .without-node .result) (m .result) (one .last .0) (two .last .0) (m .last .0) (x .last .0) (y .last .0)
-    (c .without .ensures) (c .before .without-node .ensures) (one .ensures) (two .ensures) (m .ensures .0) (m .ensures .1) (x .ensures) (y .ensures)
+    let y = c .before .before .before .rename2 in
+    let x = c .before .before .before .before .before .rename in
+    let m = c .before .before .before .before .before .before .before .merge in
+    let two = c .before .before .before .before .before .before .before .before .before .take-out2 in
+    let one = c .before .before .before .before .before .before .before .before .before .before .before .take-out in
+    let higher = c .before .before .before .before .before .before .before .before .before .before .before .before .before .higher in
+    let lower = c .before .before .before .before .before .before .before .before .before .before .before .before .before .before .lower in
+    let s = c .before .before .before .before .before .before .before .before .before .before .before .before .before .before .before .before .before in
+    contracts (s .args .t1) (sized s) (s .pre .0) (s .args .i) (s .pre .1) (s .pre .2) (lower .result) (higher .result) (lower .ensures) (higher .ensures) (c .without .result) (c .before .before .without-node .result) (c .before .into .result) (m .result) (one .last .0) (two .last .0) (m .last .0) (x .last .0) (y .last .0)
+    (c .without .ensures) (c .before .before .without-node .ensures) (c .before .into .ensures) (one .ensures) (two .ensures) (m .ensures .0) (m .ensures .1) (x .ensures) (y .ensures)
 
 pub contracted-spec : {M : Type 1} → statement M
 contracted-spec =
@@ -88,5 +102,8 @@ contracted-spec =
     rename-requires-2
     cast-without-node
     without-node-requires
+    cast-into
+    cast-into-2
+    into-requires
     without-requires
     returns)

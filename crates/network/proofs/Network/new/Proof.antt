@@ -1,10 +1,11 @@
 use Prim.Native.Nat.{ℕ, _-_}
-use mathlib.Core.Path.{_≡_, ap, _∙_}
+use mathlib.Core.Path.{_≡_, refl, ap, _∙_}
 use native.Mathlib.Omega.{arith}
 use lib.ListN.{replicate}
 use Rattle.bits.specs.Members.{members, below}
 use Rattle.bits.proofs.Digits.{digits-zero}
 use Rattle.bits.proofs.Operations.{full-fits}
+use Rattle.reliability.specs.Terminals.{among}
 use Rattle.reliability.proofs.Validity.{empty-valid}
 use Rattle.search.specs.Searches.{pick, from}
 use Rattle.search.proofs.Sets.{ascending-from}
@@ -26,10 +27,11 @@ returns c =
     let nodes = ap (λ bs. pick bs (from 0 64)) first ∙ pick-first n (64 - n) (from 0 64) ∙ take-from 0 n 64 (omega arith) in
     let none = replicate {A = ℕ} 64 0 in
     let links = pick-none (rows none none none none) in
-    (nodes, links, digits-zero 64, stands _ (λ t. record { nodes = nodes t; links = links t }) (empty-valid (from 0 n) (ascending-from 0 n)) none-counted .1)
+    let order = ascending-from 0 n in
+    (nodes, refl, links, digits-zero 64, stands _ (λ t. among (nodes t) (record { nodes = nodes t; links = links t })) (record { valid = empty-valid (from 0 n) order; ascending = order; nodes = λ v m. m }) none-counted .1)
 
-cast-t9 : tie.Need-cast-t9
-cast-t9 c = record { fits = full-fits (c .full .result) (c .before .args .n) (search needs) (c .before .pre) (c .full .ensures) }
+cast-nodes : tie.Need-cast-nodes
+cast-nodes c = record { fits = full-fits (c .full .result) (c .before .args .n) (search needs) (c .before .pre) (c .full .ensures) }
 
 pub new-spec : {M : Type 1} → statement M
-new-spec = tie.close (tie.spec full-requires cast-t9 returns)
+new-spec = tie.close (tie.spec full-requires cast-nodes returns)

@@ -21,7 +21,7 @@ abbrev μ-loop : tie.MeasureT-loop
 μ-loop self₀ self = length (linksOf self)
 
 loop-holds : tie.Need-loop-holds Inv-loop μ-loop
-loop-holds c = record { sized = search needs; holds = c .pre .0; plain = c .pre .1; same = refl }
+loop-holds c = record { sized = search needs; holds = c .pre .0; loopless = c .pre .1; same = refl; chosen = refl }
 
 first-pair-requires : tie.Need-first-pair-requires Inv-loop μ-loop
 first-pair-requires c κs =
