@@ -16,6 +16,7 @@ use Rattle.bits.proofs.Digits.{digitOf, lowest-digit, length-digits}
 use Rattle.reliability.specs.Networks.{Ascending}
 use Rattle.reliability.specs.Terminals.{has as listed}
 use Rattle.reliability.proofs.Lists.{by-eqb}
+use Rattle.reliability.proofs.Chosen.{has-mem as listed-mem}
 use Rattle.search.specs.Searches.{pick, from, nodesIn, marked, touching, Incidence}
 
 -- whether p is in the set s
@@ -147,6 +148,9 @@ pick-listed (false ∷ bs) i (suc k) (suc p) v e h = pick-listed bs (suc i) k p 
 -- a node is listed where it is in the set
 pub listed-has : (s v : ℕ) → listed v (nodesIn s) ≡ has s v
 listed-has s v = pick-listed (members s) 0 64 v v (omega arith) (omega (arith, length-digits 64 s))
+
+pub has-mem : (s v : ℕ) → has s v ≡ true → List·Memᴰ v (nodesIn s)
+has-mem s v e = listed-mem v (nodesIn s) (listed-has s v ∙ e)
 
 -- ---- the places in use at which a test of the two ends holds
 

@@ -115,7 +115,13 @@ fn in_line<'r>(v: usize, s: u64, chosen: u64, a: &'r [u8; 64], b: &'r [u8; 64]) 
 }
 
 // The lowest node with two links that can become one.
-pub fn lowest_in_line<'r>(nodes: u64, chosen: u64, at: &'r [u64; 32], a: &'r [u8; 64], b: &'r [u8; 64]) -> Found
+pub fn lowest_in_line<'r>(
+    nodes: u64,
+    chosen: u64,
+    at: &'r [u64; 32],
+    a: &'r [u8; 64],
+    b: &'r [u8; 64],
+) -> Found
     requires { ⌜ (nodes < 2 ^ 32) × ((v : ℕ) → v < 32 → Bounded (getD (now at) v 0) (now a) (now b)) ⌝ }
     ensures { λ r. ⌜ r ≡ found (inLine chosen (now (at .entry)) (now (a .entry)) (now (b .entry)) nodes) ⌝ }
 {

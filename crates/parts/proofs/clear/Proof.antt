@@ -44,7 +44,7 @@ mul-at : tie.Need-mul-at Inv-loop μ-loop
 mul-at c = record { fits = omega (arith, below (c .before .before)) }
 
 element-write-at : tie.Need-element-write-at Inv-loop μ-loop
-element-write-at c = below (c .before .before)
+element-write-at c = omega (arith, below (c .before .before))
 
 without-lowest-requires : tie.Need-without-lowest-requires Inv-loop μ-loop
 without-lowest-requires c κs = search needs

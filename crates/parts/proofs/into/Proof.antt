@@ -18,8 +18,7 @@ with-requires c κs = search needs
 cast-result : tie.Need-cast-result
 cast-result c =
     let w = c .before in
-    let a = w .before .before .before in
-    record { fits = inserted-fits _ _ (a .args .keep) (search needs) (cleared-fits _ (a .args .nodes) _ (search needs) (search needs) (w .without .ensures)) (a .pre .0) (c .with .ensures) }
+    record { fits = inserted-fits _ _ _ (search needs) (cleared-fits _ (w .before .before .before .args .nodes) _ (search needs) (search needs) (w .without .ensures)) (search needs) (c .with .ensures) }
 
 returns : tie.Need-returns
 returns c =

@@ -6,7 +6,7 @@ use native.Mathlib.Omega.{arith}
 use lib.Dec.{eqb}
 use lib.ListN.{getD}
 use borrow.Author.Needs.{needs}
-use Rattle.search.specs.Searches.{placesIn, acrossAt, betweenAt}
+use Rattle.search.specs.Searches.{placesIn, acrossAt}
 use Rattle.search.proofs.Sets.{has}
 use Rattle.search.proofs.Marks.{Lowest, lowest-in, lowest-below, lowest-first, second-place, rest-count, rest-within, counted-some}
 use Rattle.search.proofs.between.Statement.{statement}
