@@ -1,23 +1,15 @@
--- Simple networks by value, and the steps that can fit them.
+-- The steps that can fit a simple network, and the link to split on.
 use Prim.Native.Nat.{ℕ, _*_}
 use mathlib.Core.List.{List}
 use mathlib.Core.Bool.{cond, _||_}
 use lib.Dec.{eqb}
 use lib.ListN.{getD}
 use Rattle.bits.specs.Members.{members, firstOf}
-use Rattle.reliability.specs.Simple.{Simple}
-use Rattle.network.specs.declared.Network.{Network}
-use Rattle.network.specs.Places.{rank, Sized, Invariant, networkOf}
+use Rattle.network.specs.Places.{rank}
 use Rattle.reliability.specs.declared.Step.{Step}
 use Rattle.reliability.specs.declared.Step.the-variants.{OneNode, End, Series, Split}
 use Rattle.steps.specs.declared.Next.{Next}
 use Rattle.steps.specs.declared.Next.the-variants.{OneNode as One, End as Ended, Series as InSeries, Split as Splitting}
-
--- what the engine holds of a network
-pub record Workable (n : Network) : Type 0 where
-  pub sized : Sized n
-  pub holds : Invariant n
-  pub simple : Simple (networkOf n)
 
 abbrev pub stepOf : Next → Step
 stepOf One = OneNode

@@ -1,13 +1,11 @@
-// The searches on a network: its pieces, and which step of the written rule fits.
-use network::Network;
+// Which step of the written rule fits a simple network.
 use search::Found;
 ghost use mathlib.Core.Path.{_≡_};
 ghost use Prim.Native.Nat.{_<_};
 ghost use Rattle.bits.specs.Members.{members};
-ghost use Rattle.reliability.specs.Simple.{withoutLoops};
-ghost use Rattle.reliability.specs.Networks.{piecesOf};
-ghost use Rattle.network.specs.Places.{rank, networkOf, Invariant, Fitting, assembled};
-ghost use Rattle.steps.specs.Simple.{Workable, stepOf, splitOn};
+ghost use Rattle.network.specs.Places.{rank, Fitting, assembled};
+ghost use Rattle.simple.specs.Workable.{Workable};
+ghost use Rattle.steps.specs.Simple.{stepOf, splitOn};
 
 // The step that fits a simple network: one node is left, an end, two links in series, or a split.
 pub enum Next {
@@ -39,46 +37,28 @@ pub fn split_on(alive: u64, i: usize, row: &[u32; 192], k: usize, left: usize) -
     bits::lowest(alive)
 }
 
-// The network without its loops: step 1 as often as it fits.
-pub fn without_loops(net: Network) -> Network
-    requires { ⌜ Invariant net ⌝ }
-    ensures { λ r. ⌜ (networkOf r ≡ withoutLoops (networkOf net)) × Invariant r ⌝ }
-{
-    if let Found::At(i) = search::first_loop(net.alive, &net.a, &net.b) {
-        return without_loops(net.deleted(i));
-    }
-    net
-}
-
-// How many pieces the links leave the nodes in.
-pub fn pieces(net: Network) -> u32
-    requires { ⌜ Invariant net ⌝ }
-    ensures { λ r. ⌜ r ≡ piecesOf (networkOf net) ⌝ }
-{
-    pieces::count(net.nodes as u64, net.alive, &net.at, &net.a, &net.b)
-}
-
 // Which step fits a simple network, given by its parts.
 pub fn step<'r>(
     alive: u64,
     nodes: u32,
+    chosen: u32,
     at: &'r [u64; 32],
     a: &'r [u8; 64],
     b: &'r [u8; 64],
     low: &'r [u32; 64],
     high: &'r [u32; 64],
 ) -> Next
-    requires { ⌜ Workable (assembled alive nodes (now at) (now a) (now b) (now low) (now high)) ⌝ }
-    ensures { λ r. ⌜ Fitting (assembled alive nodes (now (at .entry)) (now (a .entry)) (now (b .entry)) (now (low .entry)) (now (high .entry))) (stepOf r) ⌝ }
+    requires { ⌜ Workable (assembled alive nodes chosen (now at) (now a) (now b) (now low) (now high)) ⌝ }
+    ensures { λ r. ⌜ Fitting (assembled alive nodes chosen (now (at .entry)) (now (a .entry)) (now (b .entry)) (now (low .entry)) (now (high .entry))) (stepOf r) ⌝ }
 {
-    let all = nodes as u64;
-    if search::at_most_one(all) {
+    if search::at_most_one(chosen as u64) {
         return Next::OneNode;
     }
-    if let Found::At(v) = search::lowest_with(1, all, at) {
+    let all = nodes as u64;
+    if let Found::At(v) = search::lowest_end(all, at) {
         return Next::End(v, bits::lowest(at[v]));
     }
-    if let Found::At(v) = search::lowest_with(2, all, at) {
+    if let Found::At(v) = search::lowest_in_line(all, chosen as u64, at, a, b) {
         let s = at[v];
         return Next::Series(v, bits::lowest(s), bits::lowest(bits::without_lowest(s)));
     }

@@ -4,8 +4,8 @@ use borrow.Author.Needs.{needs}
 use Rattle.reliability.specs.Networks.{pieces}
 use Rattle.network.specs.Places.{nodesOf, Sized}
 use Rattle.network.proofs.Ends.{links-ends, ended}
-use Rattle.steps.proofs.pieces.Statement.{statement}
-use Rattle.steps.proofs.pieces.Tie as tie
+use Rattle.simple.proofs.pieces.Statement.{statement}
+use Rattle.simple.proofs.pieces.Tie as tie
 
 sized : (c : tie.Start) → Sized (c .args .t1)
 sized c = search needs

@@ -4,20 +4,22 @@ use mathlib.Core.Option.{some}
 use native.Mathlib.Omega.{arith}
 use lib.ListN.{length}
 use Rattle.reliability.specs.Rule.{isLoop, firstAt}
+use Rattle.reliability.specs.Terminals.{Terminals, among}
 use Rattle.reliability.specs.Simple.{Loopless, withoutLoops}
 use Rattle.reliability.proofs.Simple.{loop-below, loop-gone, loops-gone}
-use Rattle.network.specs.Places.{linksOf, networkOf, indexOf, Used, Sized}
-use Rattle.steps.proofs.Arms.{fewer, loop-found, loop-missed}
+use Rattle.network.specs.Places.{linksOf, networkOf, terminalsOf, chosenOf, indexOf, Used, Sized}
+use Rattle.network.proofs.Kept.{chosen-of}
+use Rattle.simple.proofs.Made.{fewer, loop-found, loop-missed}
 use borrow.Author.Needs.{needs}
 use borrow.Fn.Kinds.{In}
 use borrow.Fn.PlainCycle.{Measures, is, falls, and}
-use Rattle.steps.proofs.without_loops.Reads as without-loops
-use Rattle.steps.proofs.without_loops.Kinds as without-loops-kinds
-use Rattle.steps.proofs.+without_loops.Lts-without_loops as without-loops-lts
+use Rattle.simple.proofs.without_loops.Reads as without-loops
+use Rattle.simple.proofs.without_loops.Kinds as without-loops-kinds
+use Rattle.simple.proofs.+without_loops.Lts-without_loops as without-loops-lts
 use Rattle.network.proofs.Network.deleted.Reads as deleted-reads
 use Rattle.search.proofs.first_loop.Reads as first-loop-reads
-use Rattle.steps.proofs.+without_loops.{statement}
-use Rattle.steps.proofs.+without_loops.Tie.{close}
+use Rattle.simple.proofs.+without_loops.{statement}
+use Rattle.simple.proofs.+without_loops.Tie.{close}
 
 abbrev μ-without-loops : Measures 0 without-loops-kinds.ps ℕ
 μ-without-loops κs a = length (linksOf (a .0))
@@ -67,14 +69,15 @@ deleted-requires t c κs = (start t c .pre .1, loop-at t c .0)
 without-loops-requires : (t : ℕ) → without-loops-lts.Need-without-loops-requires (claims t) (without-loops-at t) without-loops.Post
 without-loops-requires t c κs =
     let s = start t (c .before) in
-    let b = loop-below (networkOf (s .args .t1)) (s .pre .1 .valid) _ (loop-at t (c .before) .1) in
-    (omega (arith, s .pre .0, fewer (networkOf (s .args .t1)) (c .deleted .result) (c .deleted .ensures .0) b), c .deleted .ensures .1)
+    let b = loop-below (terminalsOf (s .args .t1)) (chosen-of (s .args .t1) (s .pre .1)) _ (loop-at t (c .before) .1) in
+    (omega (arith, s .pre .0, fewer (terminalsOf (s .args .t1)) (c .deleted .result) (c .deleted .ensures .0) b), c .deleted .ensures .1)
 
 returns : (t : ℕ) → without-loops-lts.Need-returns (claims t) (without-loops-at t) without-loops.Post
 returns t c =
     let l = c .before in
     let s = start t (l .before) in
-    (c .without-loops .ensures .0 ∙ ap withoutLoops (l .deleted .ensures .0) ∙ loop-gone (networkOf (s .args .t1)) _ (loop-at t (l .before) .1), c .without-loops .ensures .1)
+    let gone = ap (λ (g : Terminals). among (g .chosen) (withoutLoops (g .network))) (l .deleted .ensures .0) in
+    (c .without-loops .ensures .0 ∙ gone ∙ ap (among (chosenOf (s .args .t1))) (loop-gone (networkOf (s .args .t1)) _ (loop-at t (l .before) .1)), c .without-loops .ensures .1)
 
 enum-told : (t : ℕ) → without-loops-lts.Need-enum-told (claims t) (without-loops-at t) without-loops.Post
 enum-told t c = search needs
@@ -85,7 +88,7 @@ returns-2 : (t : ℕ) → without-loops-lts.Need-returns-2 (claims t) (without-l
 returns-2 t c =
     let s : Start t = c .before .before .before .before .before .before in
     let none : Loopless (networkOf (s .args .t1)) = loop-missed (s .args .t1) (sized t s) (sym (c .before .before .first-loop .ensures) ∙ c .enum-told .given .1) in
-    (loops-gone (networkOf (s .args .t1)) none, s .pre .1)
+    (ap (among (chosenOf (s .args .t1))) (loops-gone (networkOf (s .args .t1)) none), s .pre .1)
 
 pub +without-loops-spec : {M : Type 1} → statement M
 +without-loops-spec = close μ-without-loops λ t. without-loops-lts.spec (claims t)

@@ -1,0 +1,1 @@
+-- The links outside of the piece of the chosen nodes go.
