@@ -1,1 +1,1 @@
-pub mod Workable
+pub mod Begins

@@ -7,7 +7,7 @@ ghost use Rattle.reliability.specs.Networks.{piecesOf};
 ghost use Rattle.reliability.specs.Terminals.{among};
 ghost use Rattle.reliability.specs.Simple.{Loopless, withoutLoops, trimmed};
 ghost use Rattle.network.specs.Places.{networkOf, terminalsOf, chosenOf, Invariant};
-ghost use Rattle.simple.specs.Workable.{Several, ChosenPiece, Begins};
+ghost use Rattle.simple.specs.Begins.{Several, ChosenPiece, Begins};
 
 // What is left of a network once steps 1 to 4 fit no more: where it is settled its figure, else a simple network.
 pub struct Begun {

@@ -4,7 +4,7 @@ ghost use mathlib.Core.Path.{_≡_};
 ghost use Prim.Native.Nat.{_<_};
 ghost use Rattle.bits.specs.Members.{members};
 ghost use Rattle.network.specs.Places.{rank, Fitting, assembled};
-ghost use Rattle.simple.specs.Workable.{Workable};
+ghost use Rattle.network.specs.Workable.{Workable};
 ghost use Rattle.steps.specs.Simple.{stepOf, splitOn};
 
 // The step that fits a simple network: one node is left, an end, two links in series, or a split.

@@ -9,7 +9,7 @@ use Rattle.reliability.specs.Simple.{Loopless, withoutLoops}
 use Rattle.reliability.proofs.Simple.{loop-below, loop-gone, loops-gone}
 use Rattle.network.specs.Places.{linksOf, networkOf, terminalsOf, chosenOf, indexOf, Used, Sized}
 use Rattle.network.proofs.Kept.{chosen-of}
-use Rattle.simple.proofs.Made.{fewer, loop-found, loop-missed}
+use Rattle.network.proofs.Made.{fewer, loop-found, loop-missed}
 use borrow.Author.Needs.{needs}
 use borrow.Fn.Kinds.{In}
 use borrow.Fn.PlainCycle.{Measures, is, falls, and}

@@ -12,13 +12,13 @@ use Rattle.search.proofs.Answers.{missed}
 use Rattle.network.specs.declared.Network.{Network}
 use Rattle.network.specs.Places.{assembled}
 use Rattle.network.proofs.Ends.{bounded}
-use Rattle.steps.proofs.Fits.{one-right, node, end-right, series-right, split-right}
+use Rattle.steps.proofs.Fits.{one-right, end-node, line-node, bounded-at, end-right, series-right, split-right}
 use borrow.Author.Needs.{needs}
 use Rattle.steps.proofs.step.Statement.{statement}
 use Rattle.steps.proofs.step.Tie as tie
 
 abbrev net : tie.Start → Network
-net s = assembled (s .args .alive) (s .args .nodes) (s .args .at .now) (s .args .a .now) (s .args .b .now) (s .args .low .now) (s .args .high .now)
+net s = assembled (s .args .alive) (s .args .nodes) (s .args .chosen) (s .args .at .now) (s .args .a .now) (s .args .b .now) (s .args .low .now) (s .args .high .now)
 
 -- ---- one node
 
@@ -32,14 +32,14 @@ returns c =
 
 -- ---- what the tests have shown
 
-more : (c : tie.Else1) → leb (howMany (members (c .before .before .args .nodes))) 1 ≡ false
+more : (c : tie.Else1) → leb (howMany (members (c .before .before .args .chosen))) 1 ≡ false
 more c = sym (c .before .at-most-one .ensures) ∙ c .if1 .left
 
 abbrev tested : tie.After-enum-told → tie.Else1
 tested t = t .before .before .before
 
 no-end : (t : tie.After-enum-told) → let n = net (tested t .before .before) in withLinks 1 (n .at) (n .nodes) ≡ []
-no-end t = missed _ (sym (t .before .before .lowest-with .ensures) ∙ t .enum-told .given .1)
+no-end t = missed _ (sym (t .before .before .lowest-end .ensures) ∙ t .enum-told .given .1)
 
 -- ---- a split
 
@@ -52,7 +52,7 @@ returns-4 c =
     let f = m .before .before .before in
     let t = f .before in
     let s = tested t .before .before in
-    split-right (net s) (s .pre) (more (tested t)) (no-end t) (missed _ (sym (f .lowest-with2 .ensures) ∙ m .before .enum-told2 .given .1)) (m .counts .result) (m .counts .ensures) _ (c .largest-sum .ensures)
+    split-right (net s) (s .pre) (more (tested t)) (no-end t) (missed _ (sym (f .lowest-in-line .ensures) ∙ m .before .enum-told2 .given .1)) (m .counts .result) (m .counts .ensures) _ (c .largest-sum .ensures)
 
 counts-requires : tie.Need-counts-requires
 counts-requires c κs = search needs
@@ -62,8 +62,8 @@ largest-sum-requires c κs = let s = tested (c .before .before .before .before .
 
 -- ---- an end
 
-lowest-with-requires : tie.Need-lowest-with-requires
-lowest-with-requires c κs = search needs
+lowest-end-requires : tie.Need-lowest-end-requires
+lowest-end-requires c κs = search needs
 
 enum-known-v : tie.Need-enum-known-v
 enum-known-v c = search needs
@@ -73,7 +73,7 @@ one : (c : tie.After-known-told) → c .before .v .given .0 .0 < 32
 one c =
     let f = c .before .before .before in
     let s = f .before .before .before in
-    node (net s) (s .pre) 1 _ (sym (f .lowest-with .ensures) ∙ c .before .v .given .1) .0
+    end-node (net s) (s .pre) _ (sym (f .lowest-end .ensures) ∙ c .before .v .given .1) .0
 
 mul-lowest : tie.Need-mul-lowest
 mul-lowest c = record { fits = omega (arith, one c) }
@@ -89,15 +89,15 @@ returns-2 c =
     let k = c .before .before in
     let f = k .before .before .before in
     let s = f .before .before .before in
-    end-right (net s) (s .pre) (more (f .before)) _ _ (sym (f .lowest-with .ensures) ∙ k .before .v .given .1) (c .lowest .ensures)
+    end-right (net s) (s .pre) (more (f .before)) _ _ (sym (f .lowest-end .ensures) ∙ k .before .v .given .1) (c .lowest .ensures)
 
 -- ---- two links in series
 
 enum-told : tie.Need-enum-told
 enum-told c = search needs
 
-lowest-with-requires-2 : tie.Need-lowest-with-requires-2
-lowest-with-requires-2 c κs = search needs
+lowest-in-line-requires : tie.Need-lowest-in-line-requires
+lowest-in-line-requires c κs = let s = tested c .before .before in (s .pre .sized .nodes, bounded-at (net s) (s .pre))
 
 enum-known-v-2 : tie.Need-enum-known-v-2
 enum-known-v-2 c = search needs
@@ -107,7 +107,7 @@ two : (c : tie.After-known-told2) → let s = tested (c .before .before .before 
 two c =
     let f = c .before .before .before in
     let s = tested (f .before) .before .before in
-    let h = node (net s) (s .pre) 2 _ (sym (f .lowest-with2 .ensures) ∙ c .before .v2 .given .1) in
+    let h = line-node (net s) (s .pre) _ (sym (f .lowest-in-line .ensures) ∙ c .before .v2 .given .1) in
     (h .0, h .2)
 
 mul-s : tie.Need-mul-s
@@ -131,7 +131,7 @@ returns-3 c =
     let f = k .before .before .before in
     let t = f .before in
     let s = tested t .before .before in
-    series-right (net s) (s .pre) (more (tested t)) (no-end t) _ _ _ _ (sym (f .lowest-with2 .ensures) ∙ k .before .v2 .given .1) (c .before .before .lowest2 .ensures) (c .before .without-lowest .ensures) (c .lowest3 .ensures)
+    series-right (net s) (s .pre) (more (tested t)) (no-end t) _ _ _ _ (sym (f .lowest-in-line .ensures) ∙ k .before .v2 .given .1) (c .before .before .lowest2 .ensures) (c .before .without-lowest .ensures) (c .lowest3 .ensures)
 
 pub step-spec : {M : Type 1} → statement M
 step-spec =
@@ -139,14 +139,14 @@ step-spec =
     (tie.spec
     at-most-one-requires
     returns
-    lowest-with-requires
+    lowest-end-requires
     enum-known-v
     mul-lowest
     element-copy-out-lowest
     lowest-requires
     returns-2
     enum-told
-    lowest-with-requires-2
+    lowest-in-line-requires
     enum-known-v-2
     mul-s
     element-copy-out-s

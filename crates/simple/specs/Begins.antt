@@ -1,4 +1,4 @@
--- Simple networks by value, and what it means that a network is made simple.
+-- What it means that a network by value is made simple.
 use Prim.Native.Nat.{ℕ, _≤_, _<_}
 use mathlib.Core.Path.{_≡_}
 use mathlib.Core.Bool.{true, false}
@@ -6,18 +6,12 @@ use lib.ListN.{length}
 use Rattle.bits.specs.Members.{members, firstOf}
 use Rattle.reliability.specs.Rule.{ready}
 use Rattle.reliability.specs.Terminals.{tree}
-use Rattle.reliability.specs.Simple.{Simple}
 use Rattle.search.specs.Searches.{endsIn}
 use Rattle.pieces.specs.Pieces.{PieceOf}
 use Rattle.network.specs.declared.Network.{Network}
-use Rattle.network.specs.Places.{Sized, Invariant, terminalsOf, linksOf, chosenOf}
+use Rattle.network.specs.Places.{terminalsOf, linksOf, chosenOf}
+use Rattle.network.specs.Workable.{Workable}
 use Rattle.simple.specs.declared.Begun.{Begun}
-
--- what the engine holds of a network
-pub record Workable (n : Network) : Type 0 where
-  pub sized : Sized n
-  pub holds : Invariant n
-  pub simple : Simple (terminalsOf n)
 
 -- more than one node is chosen
 abbrev pub Several : Network → Type 0

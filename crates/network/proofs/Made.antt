@@ -19,12 +19,12 @@ use Rattle.search.specs.declared.Found.the-variants.{At, Nothing}
 use Rattle.search.specs.Searches.{pick, placesIn, found, loops}
 use Rattle.search.proofs.Sets.{has-place, mem-has}
 use Rattle.search.proofs.Answers.{first, hit, missed}
 use Rattle.network.specs.declared.Network.{Network}
 use Rattle.network.specs.Places.{networkOf, terminalsOf, linksOf, chosenOf, indexOf, Used, Invariant, Sized}
 use Rattle.network.proofs.Picks.{allRows, length-all}
 use Rattle.network.proofs.Rules.{loop-rule}
 use Rattle.network.proofs.Network.end.Kinds as end-kinds
-use Rattle.simple.specs.Workable.{Workable}
+use Rattle.network.specs.Workable.{Workable}
 use contract.Lifetimes.{Lfts}
 use borrow.Author.Needs.{needs}
 
