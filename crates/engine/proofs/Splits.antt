@@ -48,19 +48,30 @@ ready-worked {t} {k} is os l row p r f n =
     subst (λ (u : Tree). Worked u l row p r row) (sym (ap (λ (u : Tree). resumed u os) is ∙ resumed-ready k os)) (known-worked k l row p r f n)
 
 -- a factor
-pub factor-worked : {t u : Tree} {k : Direction → ℕ} → t ≡ multiplied k u → (os : List Open) (l : ℕ) (row : List ℕ) (p : ℕ) (f r : Carried) (after : List ℕ)
+factor-worked : {t u : Tree} {k : Direction → ℕ} → t ≡ multiplied k u → (os : List Open) (l : ℕ) (row : List ℕ) (p : ℕ) (f r : Carried) (after : List ℕ)
     → Worked (resumed u os) l row p f after → r .figure ≡ times k (f .figure) → r .aside ≡ f .aside → Worked (resumed t os) l row p r after
 unfolding run aside opens
 factor-worked {t} {u} {k} is os l row p f r after w g n =
     subst (λ (v : Tree). Worked v l row p r after) (sym (ap (λ (v : Tree). resumed v os) is ∙ resumed-multiplied k u os))
     (record { figure = g ∙ ap (times k) (w .figure); count = n ∙ w .count; written = w .written })
 
-pub factor-carries : {t u : Tree} {k : Direction → ℕ} → t ≡ multiplied k u → (row : List ℕ) (p c : ℕ) → Carries t row p c → Carries u row p c
+factor-carries : {t u : Tree} {k : Direction → ℕ} → t ≡ multiplied k u → (row : List ℕ) (p c : ℕ) → Carries t row p c → Carries u row p c
 factor-carries {t} {u} {k} is row p c h = record {
   size = h .size;
   traces = sym (traced-multiplied k u (opensIn row p c)) ∙ ap (λ (v : Tree). traced v (opensIn row p c)) (sym is) ∙ h .traces;
   range = h .range;
 }
+
+-- with a factor, or with none
+pub factored-worked : {t u : Tree} {k : Direction → ℕ} (c : Bool) → t ≡ cond c (multiplied k u) u → (os : List Open) (l : ℕ) (row : List ℕ) (p : ℕ) (f r : Carried) (after : List ℕ)
+    → Worked (resumed u os) l row p f after → r .figure ≡ cond c (times k (f .figure)) (f .figure) → r .aside ≡ f .aside → Worked (resumed t os) l row p r after
+factored-worked true = factor-worked
+factored-worked false is os l row p f r after w g n =
+    subst (λ (v : Tree). Worked (resumed v os) l row p r after) (sym is) (record { figure = g ∙ w .figure; count = n ∙ w .count; written = w .written })
+
+pub factored-carries : {t u : Tree} {k : Direction → ℕ} (c : Bool) → t ≡ cond c (multiplied k u) u → (row : List ℕ) (p n : ℕ) → Carries t row p n → Carries u row p n
+factored-carries true = factor-carries
+factored-carries false is row p n h = subst (λ (v : Tree). Carries v row p n) is h
 
 -- ---- a split
 

@@ -4,9 +4,9 @@ use sittings::Carried;
 use steps::Next;
 ghost use Prim.Native.Nat.{_+_, _^_, _≤_, _<_};
 ghost use lib.ListN.{length};
-ghost use Rattle.reliability.specs.Rule.{tree};
-ghost use Rattle.network.specs.Places.{networkOf, linksOf, assembled};
-ghost use Rattle.steps.specs.Simple.{Workable};
+ghost use Rattle.reliability.specs.Terminals.{tree};
+ghost use Rattle.network.specs.Places.{terminalsOf, linksOf, assembled};
+ghost use Rattle.network.specs.Workable.{Workable};
 ghost use Rattle.sittings.specs.Sittings.{resumed};
 ghost use Rattle.sittings.specs.Entries.{opensIn};
 ghost use Rattle.engine.specs.Carrying.{Carries, Worked};
@@ -16,6 +16,7 @@ ghost use Rattle.engine.specs.Carrying.{Carries, Worked};
 pub fn run<'r>(
     alive: u64,
     nodes: u32,
+    chosen: u32,
     at: &'r [u64; 32],
     a: &'r [u8; 64],
     b: &'r [u8; 64],
@@ -26,22 +27,26 @@ pub fn run<'r>(
     k: usize,
     left: usize,
 ) -> Carried
-    requires { ⌜ Workable (assembled alive nodes (now at) (now a) (now b) (now low) (now high)) × (limit < 2 ^ 32) ⌝ }
-    requires { ⌜ (k + length (linksOf (assembled alive nodes (now at) (now a) (now b) (now low) (now high))) ≤ 64) × Carries (tree (networkOf (assembled alive nodes (now at) (now a) (now b) (now low) (now high)))) (now row) k left ⌝ }
-    ensures { λ r. ⌜ Worked (resumed (tree (networkOf (assembled alive nodes (now (at .entry)) (now (a .entry)) (now (b .entry)) (now (low .entry)) (now (high .entry))))) (opensIn (now (row .entry)) k left)) limit (now (row .entry)) k r (now (row .exit)) ⌝ }
+    requires { ⌜ Workable (assembled alive nodes chosen (now at) (now a) (now b) (now low) (now high)) × (limit < 2 ^ 32) ⌝ }
+    requires { ⌜ (k + length (linksOf (assembled alive nodes chosen (now at) (now a) (now b) (now low) (now high))) ≤ 64) × Carries (tree (terminalsOf (assembled alive nodes chosen (now at) (now a) (now b) (now low) (now high)))) (now row) k left ⌝ }
+    ensures { λ r. ⌜ Worked (resumed (tree (terminalsOf (assembled alive nodes chosen (now (at .entry)) (now (a .entry)) (now (b .entry)) (now (low .entry)) (now (high .entry))))) (opensIn (now (row .entry)) k left)) limit (now (row .entry)) k r (now (row .exit)) ⌝ }
 {
-    match steps::step(alive, nodes, at, a, b, low, high) {
+    match steps::step(alive, nodes, chosen, at, a, b, low, high) {
         Next::OneNode => rows::whole(figures::settled(1_000_000_000)),
         Next::End(v, i) => {
             let e = assembly::link_at(a, b, low, high, i);
-            if search::at_most_one(bits::without(nodes as u64, v)) {
+            let multiplies = bits::has(chosen as u64, v);
+            let w = search::across(v as u8, e.a, e.b);
+            let ends = parts::into(chosen, w as usize, v);
+            if search::at_most_one(ends as u64) {
                 let one = figures::settled(1_000_000_000);
-                return rows::whole(figures::times(e.low, e.high, one));
+                return rows::whole(figures::end_of(multiplies, e, one));
             }
-            let r = assembly::assembled(alive, nodes, at, a, b, low, high).end(v, i);
+            let r = assembly::assembled(alive, nodes, chosen, at, a, b, low, high).end(v, i);
             let f = run(
                 r.alive,
                 r.nodes,
+                r.chosen,
                 &r.at,
                 &r.a,
                 &r.b,
@@ -52,7 +57,7 @@ pub fn run<'r>(
                 k,
                 left,
             );
-            let figure = figures::times(e.low, e.high, f.figure);
+            let figure = figures::end_of(multiplies, e, f.figure);
             Carried {
                 figure,
                 aside: f.aside,
@@ -61,12 +66,14 @@ pub fn run<'r>(
         Next::Series(v, i, j) => {
             let e = assembly::link_at(a, b, low, high, i);
             let h = assembly::link_at(a, b, low, high, j);
-            let r = assembly::assembled(alive, nodes, at, a, b, low, high)
+            let multiplies = bits::has(chosen as u64, v);
+            let r = assembly::assembled(alive, nodes, chosen, at, a, b, low, high)
                 .series(v, i, j)
                 .parallel();
             let f = run(
                 r.alive,
                 r.nodes,
+                r.chosen,
                 &r.at,
                 &r.a,
                 &r.b,
@@ -77,7 +84,7 @@ pub fn run<'r>(
                 k,
                 left,
             );
-            let figure = figures::times_factor(e, h, f.figure);
+            let figure = figures::series_of(multiplies, e, h, f.figure);
             Carried {
                 figure,
                 aside: f.aside,
@@ -97,12 +104,13 @@ pub fn run<'r>(
             let sound = if known {
                 rows::known_at(row, k)
             } else {
-                let s = assembly::assembled(alive, nodes, at, a, b, low, high)
+                let s = assembly::assembled(alive, nodes, chosen, at, a, b, low, high)
                     .contracted(i)
                     .parallel();
                 run(
                     s.alive,
                     s.nodes,
+                    s.chosen,
                     &s.at,
                     &s.a,
                     &s.b,
@@ -118,14 +126,19 @@ pub fn run<'r>(
             let mut rest = *at;
             parts::take_out(&mut rest, e.a, i);
             parts::take_out(&mut rest, e.b, i);
-            if 1 < pieces::count(nodes as u64, others, &rest, a, b) {
+            let all = nodes as u64;
+            let asked = chosen as u64;
+            let piece = pieces::piece_of(bits::lowest(asked), all, others, &rest, a, b);
+            if bits::difference(asked, piece) != 0 {
                 let none = rows::whole(figures::settled(0));
                 return rows::closed(row, k, place, e, own, sound, none);
             }
+            let kept = parts::clear(&mut rest, bits::difference(all, piece), others);
             let remains = limited - (sound.figure.steps as u64);
             let broken = run(
-                others,
+                kept,
                 nodes,
+                chosen,
                 &rest,
                 a,
                 b,

@@ -11,7 +11,7 @@ use Rattle.reliability.specs.Networks.{Network, Valid as NetworkValid}
 use Rattle.reliability.specs.Rule.{chosen, stepAt, Remainder, settled, rest, scaled, branches, Tree, ready, multiplied, fork, taken, grown, treeOf, tree}
 use Rattle.reliability.proofs.Lawful.{Leaves, View, Sized, Lawful, Choice, of-tree}
 use Rattle.reliability.proofs.Steps.{view, chosen-link}
-use Rattle.reliability.proofs.Enclosure.{lawful as law}
+use Rattle.reliability.proofs.Everywhere.{lawful as law}
 use Rattle.sittings.specs.Sittings.{Open, running, known, placeOf, traced}
 use Rattle.saved.specs.Format.{places}
 use Rattle.saved.proofs.Laws.{Fit}

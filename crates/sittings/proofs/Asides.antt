@@ -8,12 +8,12 @@ use lib.ListN.{length, set}
 use lib.Seq.{sets, set-comm}
 use Rattle.reliability.specs.declared.Link.{Link}
 use Rattle.reliability.specs.declared.Figure.{Figure}
-use Rattle.reliability.specs.Networks.{Network, Valid as NetworkValid}
-use Rattle.reliability.specs.Rule.{chosen, stepAt, Remainder, settled, rest, scaled, branches, Tree, ready, multiplied, fork, taken, grown, isSplit, treeOf, tree, run}
+use Rattle.reliability.specs.Rule.{Remainder, settled, rest, scaled, branches, Tree, ready, multiplied, fork, taken, grown, isSplit, treeOf, run}
+use Rattle.reliability.specs.Terminals.{Terminals, Chosen, splitAt, stepAt, tree}
 use Rattle.reliability.proofs.Lawful.{Leaves, View, Sized, Lawful, Choice}
 use Rattle.reliability.proofs.Runs.{all-taken}
-use Rattle.reliability.proofs.Steps.{view, chosen-link}
-use Rattle.reliability.proofs.Enclosure.{lawful as law}
+use Rattle.reliability.proofs.TerminalSteps.{view, split-choice}
+use Rattle.reliability.proofs.TerminalSums.{lawful as law}
 use Rattle.sittings.specs.Sittings.{Open, running, known, sides, opens, aside}
 use Rattle.sittings.specs.Entries.{entries, ownEntry, ownCount}
 use Rattle.sittings.proofs.Own.{own-done, own-known, own-running}
@@ -64,8 +64,8 @@ module _ {N : Type 0} (Valid : N → Type 0) (μ : View N) (step : ℕ → N →
   fresh-of zero g h = subst (λ (r : Remainder N). Fresh (grown (λ h. ready (λ d. 0)) (choose g) r)) (sym (lawful .none-left g h (choose g) .2)) tt
   fresh-of (suc m) g h = grown-fresh m (fresh-of m) (choose g) _ (step (choose g) g) (lawful .left m g h (choose g) (choice g))
 
-pub tree-fresh : (g : Network) → NetworkValid g → Fresh (tree g)
-tree-fresh g valid = fresh-of NetworkValid view stepAt law chosen chosen-link (length (g .links)) g (record { valid = valid; size = refl })
+pub terminals-fresh : (g : Terminals) → Chosen g → Fresh (tree g)
+terminals-fresh g valid = fresh-of Chosen view stepAt law splitAt split-choice (length (g .network .links)) g (record { valid = valid; size = refl })
 
 -- ---- a taken split
 

@@ -9,12 +9,15 @@ use lib.Dec.{eqb}
 use lib.ListN.{length}
 use Rattle.reliability.specs.declared.Link.{Link}
 use Rattle.reliability.specs.declared.Figure.{Figure}
-use Rattle.reliability.specs.Networks.{Network, Valid as NetworkValid}
-use Rattle.reliability.specs.Rule.{chosen, stepAt, Remainder, settled, rest, scaled, branches, Tree, ready, multiplied, fork, taken, grown, isSplit, treeOf, tree, run}
+use Rattle.reliability.specs.Networks.{Network, Valid}
+use Rattle.reliability.specs.Rule.{Remainder, settled, rest, scaled, branches, Tree, ready, multiplied, fork, taken, grown, isSplit, treeOf, tree as treeAll, run}
+use Rattle.reliability.specs.Terminals.{Terminals, Chosen, everywhere as all, splitAt, stepAt, tree}
 use Rattle.reliability.proofs.Lawful.{Leaves, View, Place, Sized, Lawful, Choice, everywhere, of-tree}
 use Rattle.reliability.proofs.Runs.{Ranged}
-use Rattle.reliability.proofs.Steps.{view, chosen-link}
-use Rattle.reliability.proofs.Enclosure.{lawful as law, ranged}
+use Rattle.reliability.proofs.TerminalSteps.{view, split-choice}
+use Rattle.reliability.proofs.Enclosure.{ranged}
+use Rattle.reliability.proofs.TerminalSums.{lawful as law}
+use Rattle.reliability.proofs.Everywhere.{chosen-all, tree-everywhere}
 use Rattle.sittings.specs.Sittings.{Open, running, known, placeOf, sides, opened, opens, aside, resumed, traced}
 use Rattle.sittings.specs.Entries.{Known, InRange}
 use Rattle.sittings.proofs.Sittings.{Back, Formed}
@@ -146,15 +149,23 @@ module _ {N : Type 0} (Valid : N → Type 0) (μ : View N) (step : ℕ → N →
 
 -- ---- the rule
 
-module _ (g : Network) (valid : NetworkValid g) where
-  sized : Sized NetworkValid view (length (g .links)) g
+module _ (g : Terminals) (valid : Chosen g) where
+  sized : Sized Chosen view (length (g .network .links)) g
   sized = record { valid = valid; size = refl }
 
-  pub tree-deep : Deep (length (g .links)) (tree g)
-  tree-deep = deep-of NetworkValid view stepAt law chosen chosen-link (length (g .links)) g sized
+  pub terminals-deep : Deep (length (g .network .links)) (tree g)
+  terminals-deep = deep-of Chosen view stepAt law splitAt split-choice (length (g .network .links)) g sized
 
-  pub tree-ranged : Ranged (tree g)
-  tree-ranged = ranged NetworkValid view stepAt law chosen chosen-link (length (g .links)) g sized
+  pub terminals-ranged : Ranged (tree g)
+  terminals-ranged = ranged Chosen view stepAt law splitAt split-choice (length (g .network .links)) g sized
 
-  pub tree-formed : Formed (tree g)
-  tree-formed = formed-of NetworkValid view stepAt law chosen chosen-link (length (g .links)) g sized
+  terminals-formed : Formed (tree g)
+  terminals-formed = formed-of Chosen view stepAt law splitAt split-choice (length (g .network .links)) g sized
+
+-- of document 01's rule: that of all nodes
+module _ (g : Network) (valid : Valid g) where
+  pub tree-deep : Deep (length (g .links)) (treeAll g)
+  tree-deep = subst (Deep (length (g .links))) (tree-everywhere g valid) (terminals-deep (all g) (chosen-all g valid))
+
+  pub tree-formed : Formed (treeAll g)
+  tree-formed = subst Formed (tree-everywhere g valid) (terminals-formed (all g) (chosen-all g valid))

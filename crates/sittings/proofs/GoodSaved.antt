@@ -20,7 +20,8 @@ use Rattle.reliability.proofs.Lawful.{Place}
 use Rattle.reliability.proofs.Runs.{steps, range, nested}
 use Rattle.reliability.proofs.Steps.{view, first-link, chosen-link}
 use Rattle.reliability.proofs.Validity.{valued}
-use Rattle.reliability.proofs.Enclosure.{Encloses, Figured, lawful}
+use Rattle.reliability.proofs.Enclosure.{Encloses, Figured}
+use Rattle.reliability.proofs.Everywhere.{lawful}
 use Rattle.reliability.proofs.Weights.{Near, near-weights, low-below-high, no-wider, total-pos}
 use Rattle.reliability.proofs.Theorems.{low-weights}
 use Rattle.sittings.specs.Sittings.{Open, sides, opens, resumed, traced, Saved, begun, complete, nothing, most, sitting, Choosing, byFirstLink, byLargestSum, choiceOf, savedBy}

@@ -8,34 +8,41 @@ use native.Mathlib.Omega.{arith}
 use lib.Dec.{eqb}
 use lib.ListN.{length, getD}
 use lib.Seq.{sets}
-use borrow.Author.Tests.{ne-eqb}
+use borrow.Author.Tests.{eqb-true, eqb-false, ne-eqb}
 use Rattle.rounding.specs.Rounding.{S, factor}
 use Rattle.reliability.specs.declared.Link.{Link}
 use Rattle.reliability.specs.declared.Figure.{Figure}
 use Rattle.reliability.specs.declared.Step.the-variants.{End, Series, Split}
-use Rattle.reliability.specs.Networks.{Network as Graph, value}
-use Rattle.reliability.specs.Rule.{Tree, ready, multiplied, fork, tree, more, mixed, deleted, removed, joined, inSeries, contracted, bounded, times}
-use Rattle.reliability.specs.Simple.{Plain}
+use Rattle.reliability.specs.Networks.{value}
+use Rattle.reliability.specs.Rule.{across, Tree, ready, multiplied, fork, more, mixed, bounded, times}
+use Rattle.reliability.specs.Terminals.{Terminals, has as listing, endLeft, seriesLeft, soundLeft, brokenLeft, tree}
+use Rattle.reliability.specs.Simple.{Loopless, Pairless, Plain}
+use Rattle.search.specs.Searches.{endsIn}
+use Rattle.pieces.specs.Pieces.{PieceOf}
+use Rattle.simple.specs.Begins.{ChosenPiece}
 use Rattle.reliability.proofs.Lists.{by-eqb}
 use Rattle.reliability.proofs.Runs.{Ranged}
 use Rattle.reliability.proofs.Unrolled.{Below}
 use Rattle.network.specs.declared.Network.{Network}
-use Rattle.network.specs.Places.{rowOf as linkRow, linksOf, networkOf, indexOf, linkOf, Invariant, Used, Sized, ranked, Fitting, assembled}
-use Rattle.network.proofs.Ends.{ended}
-use Rattle.network.proofs.Kept.{ends-below}
+use Rattle.network.specs.Places.{rowOf as linkRow, linksOf, networkOf, terminalsOf, chosenOf, indexOf, linkOf, Invariant, Used, Sized, ranked, Fitting, assembled}
+use Rattle.network.proofs.Kept.{chosen-of, ends-below, across-below}
+use Rattle.search.proofs.Sets.{listed-has}
 use Rattle.steps.specs.declared.Next.{Next}
 use Rattle.steps.specs.declared.Next.the-variants.{OneNode as One, End as Ended, Series as InSeries, Split as Splitting}
-use Rattle.steps.specs.Simple.{Workable, stepOf}
-use Rattle.steps.proofs.Arms.{Within, sized-of, moved-fits, link-within, fewer, unpaired-work, unpaired-same, unpaired-less, one-tree, link-is, end-below, end-tree, last-end, end-work, series-left, series-below, series-tree, works, at-link, split-work, sound-left, sound-below, broken-below, split-tree, broken-is, broken-sized, broken-apart, broken-work}
+use Rattle.network.specs.Workable.{Workable}
+use Rattle.steps.specs.Simple.{stepOf}
+use Rattle.network.proofs.Made.{sized-of, fewer, unpaired-work, unpaired-same, unpaired-less}
+use Rattle.steps.proofs.Arms.{Within, moved-fits, link-within, one-tree, link-is, end-below, end-tree, last-end, end-work, series-left, series-below, series-tree, works, at-link, split-work, sound-left, sound-below, broken-below, split-tree, several, broken-is, broken-sized, broken-loopless, broken-pairless}
+use Rattle.simple.proofs.Broken.{piece-asked, others-fit, broken-apart, broken-work, broken-same, broken-few}
 use Rattle.sittings.specs.declared.Carried.{Carried}
 use Rattle.sittings.specs.Sittings.{Open, aside, resumed}
 use Rattle.sittings.specs.Entries.{opensIn, ownEntry, ownCount}
-use Rattle.sittings.proofs.Asides.{tree-fresh}
-use Rattle.sittings.proofs.Bounds.{Deep, deeper, resumed-ranged, tree-ranged, tree-deep}
+use Rattle.sittings.proofs.Asides.{terminals-fresh}
+use Rattle.sittings.proofs.Bounds.{Deep, deeper, resumed-ranged, terminals-ranged, terminals-deep}
 use Rattle.engine.specs.Carrying.{Carries, Worked}
 use Rattle.steps.proofs.Places.{split-fresh, split-placed, split-used}
 use Rattle.sittings.proofs.Opened.{knownPair}
-use Rattle.engine.proofs.Splits.{own-fits, known-worked, broken-ready, ready-worked, stopped-worked, factor-worked, factor-carries, Taking, open-place, soundOf, brokenOf, split-worked, sound-carries, broken-carries, broken-resumed, sound-ranged, broken-ranged, sound-few, broken-few, Bounded, worked-bounded, worked-size}
+use Rattle.engine.proofs.Splits.{own-fits, known-worked, broken-ready, ready-worked, stopped-worked, factored-worked, factored-carries, Taking, open-place, soundOf, brokenOf, split-worked, sound-carries, broken-carries, broken-resumed, sound-ranged, broken-ranged, sound-few, broken-few, Bounded, worked-bounded, worked-size}
 use borrow.Author.Needs.{needs}
 use borrow.Fn.Kinds.{In}
 use borrow.Fn.PlainCycle.{Measures, is, falls, and}
@@ -46,8 +53,8 @@ use Rattle.bits.proofs.without.Reads as without-reads
 use Rattle.rows.proofs.of_broken.Reads as of-broken-reads
 use Rattle.rows.proofs.whole.Reads as whole-reads
 use Rattle.figures.proofs.settled.Reads as settled-reads
-use Rattle.figures.proofs.times.Reads as times-reads
-use Rattle.figures.proofs.times_factor.Reads as times-factor-reads
+use Rattle.figures.proofs.end_of.Reads as end-of-reads
+use Rattle.figures.proofs.series_of.Reads as series-of-reads
 use Rattle.figures.proofs.unfinished.Reads as unfinished-reads
 use Rattle.network.proofs.Network.contracted.Reads as contracted-reads
 use Rattle.network.proofs.Network.end.Reads as end-reads
@@ -56,7 +63,13 @@ use Rattle.network.proofs.Network.series.Reads as series-reads
 use Rattle.assembly.proofs.assembled.Reads as assembled-reads
 use Rattle.assembly.proofs.link_at.Reads as link-at-reads
 use Rattle.parts.proofs.take_out.Reads as take-out-reads
-use Rattle.pieces.proofs.count.Reads as count-reads
+use Rattle.parts.proofs.clear.Reads as clear-reads
+use Rattle.parts.proofs.into.Reads as into-reads
+use Rattle.pieces.proofs.piece_of.Reads as piece-of-reads
+use Rattle.search.proofs.across.Reads as across-reads
+use Rattle.bits.proofs.has.Reads as has-reads
+use Rattle.bits.proofs.lowest.Reads as lowest-reads
+use Rattle.bits.proofs.difference.Reads as difference-reads
 use Rattle.search.proofs.at_most_one.Reads as at-most-one-reads
 use Rattle.rows.proofs.behind.Reads as behind-reads
 use Rattle.rows.proofs.closed.Reads as closed-reads
@@ -71,7 +84,7 @@ use Rattle.engine.proofs.+run.{statement}
 use Rattle.engine.proofs.+run.Tie.{close}
 
 abbrev μ-run : Measures 2 run-kinds.ps ℕ
-μ-run κs a = length (linksOf (assembled (a .0) (a .1 .0) (a .1 .1 .0 .now) (a .1 .1 .1 .0 .now) (a .1 .1 .1 .1 .0 .now) (a .1 .1 .1 .1 .1 .0 .now) (a .1 .1 .1 .1 .1 .1 .0 .now)))
+μ-run κs a = length (linksOf (assembled (a .0) (a .1 .0) (a .1 .1 .0) (a .1 .1 .1 .0 .now) (a .1 .1 .1 .1 .0 .now) (a .1 .1 .1 .1 .1 .0 .now) (a .1 .1 .1 .1 .1 .1 .0 .now) (a .1 .1 .1 .1 .1 .1 .1 .0 .now)))
 
 abbrev run-at : ℕ → In 2 run-kinds.ps
 run-at t = and 2 run-kinds.ps (is 2 run-kinds.ps μ-run t) run.Pre
@@ -89,12 +102,16 @@ claims t = (
   whole-reads.Learnt,
   link-at-reads.Asked,
   link-at-reads.Learnt,
-  without-reads.Asked,
-  without-reads.Learnt,
+  has-reads.Asked,
+  has-reads.Learnt,
+  across-reads.Asked,
+  across-reads.Learnt,
+  into-reads.Asked,
+  into-reads.Learnt,
   at-most-one-reads.Asked,
   at-most-one-reads.Learnt,
-  times-reads.Asked,
-  times-reads.Learnt,
+  end-of-reads.Asked,
+  end-of-reads.Learnt,
   assembled-reads.Asked,
   assembled-reads.Learnt,
   end-reads.Asked,
@@ -105,8 +122,8 @@ claims t = (
   series-reads.Learnt,
   parallel-reads.Asked,
   parallel-reads.Learnt,
-  times-factor-reads.Asked,
-  times-factor-reads.Learnt,
+  series-of-reads.Asked,
+  series-of-reads.Learnt,
   split-on-reads.Asked,
   split-on-reads.Learnt,
   stopped-reads.Asked,
@@ -125,12 +142,20 @@ claims t = (
   known-at-reads.Learnt,
   contracted-reads.Asked,
   contracted-reads.Learnt,
+  without-reads.Asked,
+  without-reads.Learnt,
   take-out-reads.Asked,
   take-out-reads.Learnt,
-  count-reads.Asked,
-  count-reads.Learnt,
+  lowest-reads.Asked,
+  lowest-reads.Learnt,
+  piece-of-reads.Asked,
+  piece-of-reads.Learnt,
+  difference-reads.Asked,
+  difference-reads.Learnt,
   closed-reads.Asked,
   closed-reads.Learnt,
+  clear-reads.Asked,
+  clear-reads.Learnt,
   of-broken-reads.Asked,
   of-broken-reads.Learnt,
 )
@@ -140,13 +165,13 @@ abbrev Told : ℕ → Type 0
 Told t = run-lts.After-step (claims t) (run-at t) run.Post
 
 abbrev net : (t : ℕ) → Told t → Network
-net t o = let s = o .before .args in assembled (s .alive) (s .nodes) (s .at .now) (s .a .now) (s .b .now) (s .low .now) (s .high .now)
+net t o = let s = o .before .args in assembled (s .alive) (s .nodes) (s .chosen) (s .at .now) (s .a .now) (s .b .now) (s .low .now) (s .high .now)
 
 workable : (t : ℕ) (o : Told t) → Workable (net t o)
 workable t o = o .before .pre .1 .0 .0
 
-abbrev graph : (t : ℕ) → Told t → Graph
-graph t o = networkOf (net t o)
+abbrev graph : (t : ℕ) → Told t → Terminals
+graph t o = terminalsOf (net t o)
 
 -- the row, and its open splits
 abbrev rowOf : (t : ℕ) → Told t → List ℕ
@@ -209,9 +234,29 @@ end-fits t k = fitting t (end-told t k) (Ended _ _) (k .before .v .given .1)
 run-link-at-requires : (t : ℕ) → run-lts.Need-link-at-requires (claims t) (run-at t) run.Post
 run-link-at-requires t c κs = end-fits t c .placed .1 .below
 
--- the last node but one
-run-without-requires : (t : ℕ) → run-lts.Need-without-requires (claims t) (run-at t) run.Post
-run-without-requires t c κs = omega (arith, end-fits t (c .before) .placed .0)
+-- the end's node and its neighbour
+run-has-requires : (t : ℕ) → run-lts.Need-has-requires (claims t) (run-at t) run.Post
+run-has-requires t c κs = omega (arith, end-fits t (c .before) .placed .0)
+
+run-cast-across : (t : ℕ) → run-lts.Need-cast-across (claims t) (run-at t) run.Post
+run-cast-across t c = record { fits = omega (arith, end-fits t (c .before .before) .placed .0) }
+
+run-across-requires : (t : ℕ) → run-lts.Need-across-requires (claims t) (run-at t) run.Post
+run-across-requires t c κs = search needs
+
+run-cast-into : (t : ℕ) → run-lts.Need-cast-into (claims t) (run-at t) run.Post
+run-cast-into t c = search needs
+
+run-into-requires : (t : ℕ) → run-lts.Need-into-requires (claims t) (run-at t) run.Post
+run-into-requires t c κs =
+    let a = c .before .before in
+    let k = a .before in
+    let o = end-told t k in
+    let below = subst (λ (e : Link). (e .a < 32) × (e .b < 32)) (sym (a .link-at .ensures)) (ends-below (net t o) (workable t o .sized) (workable t o .holds) _ (end-fits t k .placed .1)) in
+    (across-below _ _ _ below (c .across .ensures), end-fits t k .placed .0)
+
+run-cast-at-most-one : (t : ℕ) → run-lts.Need-cast-at-most-one (claims t) (run-at t) run.Post
+run-cast-at-most-one t c = search needs
 
 run-at-most-one-requires : (t : ℕ) → run-lts.Need-at-most-one-requires (claims t) (run-at t) run.Post
 run-at-most-one-requires t c κs = search needs
@@ -228,28 +273,38 @@ end-link t a = let k = a .before in let o = end-told t k in link-is (net t o) (w
 end-within : (t : ℕ) (a : End-read t) → Within (a .link-at .result .low) (a .link-at .result .high)
 end-within t a = let k = a .before in let o = end-told t k in link-within (net t o) (workable t o .holds) (workable t o .sized) (a .link-at .result) _ (end-fits t k .placed .1) (end-link t a)
 
-run-times-requires : (t : ℕ) → run-lts.Need-times-requires (claims t) (run-at t) run.Post
-run-times-requires t c κs =
-    let e = end-within t (c .before .before .before .before) in
+run-end-of-requires : (t : ℕ) → run-lts.Need-end-of-requires (claims t) (run-at t) run.Post
+run-end-of-requires t c κs =
+    let e = end-within t (c .before .before .before .before .before .before) in
     let z = c .settled2 .ensures in
     (omega (arith, e), omega (arith, e), omega (arith, ap (λ (g : Figure). g .low) z), omega (arith, ap (λ (g : Figure). g .high) z))
 
 run-whole-requires-2 : (t : ℕ) → run-lts.Need-whole-requires-2 (claims t) (run-at t) run.Post
 run-whole-requires-2 t c κs = search needs
 
+-- whether the node that goes is chosen
+end-chosen : (t : ℕ) (h : run-lts.After-has (claims t) (run-at t) run.Post) → let k = h .before .before in h .has .result ≡ listing (k .before .v .given .0 .0) (chosenOf (net t (end-told t k)))
+end-chosen t h = let k = h .before .before in h .has .ensures ∙ sym (listed-has (net t (end-told t k) .chosen) _)
+
 run-returns : (t : ℕ) → run-lts.Need-returns (claims t) (run-at t) run.Post
 run-returns t c =
     let d = c .before in
-    let w = d .before .before .before .before in
-    let k = w .before .before in
+    let i = d .before .before .before .before in
+    let h = i .before .before in
+    let k = h .before .before in
     let o = end-told t k in
     let n = net t o in
     let a = o .before .args in
-    let one = last-end n (workable t o) _ _ (end-fits t k) (w .without .result) (w .without .ensures) (sym (d .before .before .before .at-most-one .ensures) ∙ d .before .before .if1 .taken) in
+    let v = k .before .v .given .0 .0 in
+    let link = end-link t (h .before) in
+    let is-one = end-chosen t h in
+    let value-one = d .before .settled2 .ensures in
+    let neighbour = i .before .across .ensures ∙ ap (across v) link in
+    let one = last-end n (workable t o) _ _ (end-fits t k) (i .before .across .result) (i .into .result) neighbour (i .into .ensures) (sym (d .before .before .before .at-most-one .ensures) ∙ d .before .before .if1 .taken) in
     let f : Carried = record { figure = bounded (λ d. S) 0 true; aside = 0 } in
-    factor-worked (end-tree n (workable t o) _ _ (end-fits t k)) (openOf t o) (a .limit) (rowOf t o) (a .k) f (c .whole2 .result) (rowOf t o)
+    factored-worked (listing v (chosenOf n)) (end-tree n (workable t o) _ _ (end-fits t k)) (openOf t o) (a .limit) (rowOf t o) (a .k) f (c .whole2 .result) (rowOf t o)
     (ready-worked one (openOf t o) (a .limit) (rowOf t o) (a .k) f refl refl)
-    (c .whole2 .ensures .0 ∙ d .times .ensures ∙ ap₂ (λ (e : Link) (f : Figure). times (λ d. value d e) f) (end-link t (w .before)) (d .before .settled2 .ensures))
+    (c .whole2 .ensures .0 ∙ d .end-of .ensures ∙ (λ j. cond (is-one j) (times (λ d. value d (link j)) (value-one j)) (value-one j)))
     (c .whole2 .ensures .1)
 
 run-assembled-requires : (t : ℕ) → run-lts.Need-assembled-requires (claims t) (run-at t) run.Post
@@ -257,7 +312,7 @@ run-assembled-requires t c κs = search needs
 
 run-end-requires : (t : ℕ) → run-lts.Need-end-requires (claims t) (run-at t) run.Post
 run-end-requires t c κs =
-    let k = c .before .before .before .before .before in
+    let k = c .before .before .before .before .before .before .before in
     let e = c .assembled .ensures in
     (put-together t (end-told t k) e, moved-fits (sym e) (end-fits t k))
 
@@ -266,19 +321,25 @@ abbrev End-left : ℕ → Type 0
 End-left t = run-lts.After-end (claims t) (run-at t) run.Post
 
 abbrev end-of : (t : ℕ) → End-left t → End-known t
-end-of t l = l .before .before .before .before .before .before
+end-of t l = l .before .before .before .before .before .before .before .before
 
-abbrev end-graph : (t : ℕ) → End-left t → Graph
-end-graph t l = let k = end-of t l in let n = net t (end-told t k) in let p = k .before .v .given .0 in removed (p .0) (deleted (indexOf n (p .1 .0)) (networkOf n))
+abbrev end-graph : (t : ℕ) → End-left t → Terminals
+end-graph t l = let k = end-of t l in let n = net t (end-told t k) in let p = k .before .v .given .0 in endLeft (p .0) (indexOf n (p .1 .0)) (terminalsOf n)
 
-end-is : (t : ℕ) (l : End-left t) → networkOf (l .end .result) ≡ end-graph t l
-end-is t l = let p = end-of t l .before .v .given .0 in l .end .ensures .0 ∙ ap (λ (n : Network). removed (p .0) (deleted (indexOf n (p .1 .0)) (networkOf n))) (l .before .assembled .ensures)
+end-is : (t : ℕ) (l : End-left t) → terminalsOf (l .end .result) ≡ end-graph t l
+end-is t l = let p = end-of t l .before .v .given .0 in l .end .ensures .0 ∙ ap (λ (n : Network). endLeft (p .0) (indexOf n (p .1 .0)) (terminalsOf n)) (l .before .assembled .ensures)
 
-end-worked : (t : ℕ) (l : End-left t) → let k = end-of t l in let n = net t (end-told t k) in tree (networkOf n) ≡ multiplied (λ d. value d (linkOf n (k .before .v .given .0 .1 .0))) (tree (networkOf (l .end .result)))
+-- whether it multiplies
+abbrev end-multiplies : (t : ℕ) → End-left t → Bool
+end-multiplies t l = let k = end-of t l in listing (k .before .v .given .0 .0) (chosenOf (net t (end-told t k)))
+
+end-worked : (t : ℕ) (l : End-left t) → let k = end-of t l in let n = net t (end-told t k) in let u = tree (terminalsOf (l .end .result)) in
+    tree (terminalsOf n) ≡ cond (end-multiplies t l) (multiplied (λ d. value d (linkOf n (k .before .v .given .0 .1 .0))) u) u
 end-worked t l =
     let k = end-of t l in
     let n = net t (end-told t k) in
-    end-tree n (workable t (end-told t k)) _ _ (end-fits t k) ∙ ap (λ (h : Graph). multiplied (λ d. value d (linkOf n (k .before .v .given .0 .1 .0))) (tree h)) (sym (end-is t l))
+    end-tree n (workable t (end-told t k)) _ _ (end-fits t k)
+    ∙ ap (λ (h : Terminals). cond (end-multiplies t l) (multiplied (λ d. value d (linkOf n (k .before .v .given .0 .1 .0))) (tree h)) (tree h)) (sym (end-is t l))
 
 run-run-requires : (t : ℕ) → run-lts.Need-run-requires (claims t) (run-at t) run.Post
 run-run-requires t c κs =
@@ -287,28 +348,28 @@ run-run-requires t c κs =
     let o = end-told t k in
     let n = net t o in
     let a = o .before .args in
-    let few = fewer (networkOf n) (l .end .result) (end-is t l) (end-below n (workable t o) _ _ (end-fits t k)) in (
+    let few = fewer (terminalsOf n) (l .end .result) (end-is t l) (end-below n (workable t o) _ _ (end-fits t k)) in (
       less t o _ few,
       (
         (end-work n (workable t o) _ _ (end-fits t k) (l .end .result) (end-is t l) (sized-of (l .end .lifetimes) (l .end .result) (l .end .ok)) (l .end .ensures .1), omega (arith, o .before .pre .1 .0 .1)),
-        (omega (arith, few, room t o), factor-carries (end-worked t l) (rowOf t o) (a .k) (a .left) (carries t o)),
+        (omega (arith, few, room t o), factored-carries (end-multiplies t l) (end-worked t l) (rowOf t o) (a .k) (a .left) (carries t o)),
       ),
     )
 
 -- the figures of the rest are in range
-rest-within : (t : ℕ) (o : Told t) (r : Network) → Invariant r → (f : Carried) (row after : List ℕ) → let a = o .before .args in Carries (tree (networkOf r)) (a .row .now) (a .k) (a .left)
-    → Worked (resumed (tree (networkOf r)) (openOf t o)) (a .limit) row (a .k) f after → Within (f .figure .low) (f .figure .high)
+rest-within : (t : ℕ) (o : Told t) (r : Network) → Invariant r → (f : Carried) (row after : List ℕ) → let a = o .before .args in Carries (tree (terminalsOf r)) (a .row .now) (a .k) (a .left)
+    → Worked (resumed (tree (terminalsOf r)) (openOf t o)) (a .limit) row (a .k) f after → Within (f .figure .low) (f .figure .high)
 rest-within t o r holds f row after c w =
-    let b = worked-bounded (resumed-ranged (tree (networkOf r)) (openOf t o) (tree-ranged (networkOf r) (holds .valid)) (c .range)) w in
+    let b = worked-bounded (resumed-ranged (tree (terminalsOf r)) (openOf t o) (terminals-ranged (terminalsOf r) (chosen-of r holds)) (c .range)) w in
     (b .low, b .high)
 
-run-times-requires-2 : (t : ℕ) → run-lts.Need-times-requires-2 (claims t) (run-at t) run.Post
-run-times-requires-2 t c κs =
+run-end-of-requires-2 : (t : ℕ) → run-lts.Need-end-of-requires-2 (claims t) (run-at t) run.Post
+run-end-of-requires-2 t c κs =
     let l = c .before .before .before .before .before .before .before .before in
     let o = end-told t (end-of t l) in
     let a = o .before .args in
-    let e = end-within t (l .before .before .before .before .before) in
-    let w = rest-within t o (l .end .result) (l .end .ensures .1) (c .run .result) _ _ (factor-carries (end-worked t l) (rowOf t o) (a .k) (a .left) (carries t o)) (c .run .ensures) in
+    let e = end-within t (l .before .before .before .before .before .before .before) in
+    let w = rest-within t o (l .end .result) (l .end .ensures .1) (c .run .result) _ _ (factored-carries (end-multiplies t l) (end-worked t l) (rowOf t o) (a .k) (a .left) (carries t o)) (c .run .ensures) in
     (omega (arith, e), omega (arith, e), w .0, w .1)
 
 run-returns-5 : (t : ℕ) → run-lts.Need-returns-5 (claims t) (run-at t) run.Post
@@ -316,8 +377,11 @@ run-returns-5 t c =
     let l = c .before .before .before .before .before .before .before .before .before in
     let o = end-told t (end-of t l) in
     let a = o .before .args in
-    factor-worked (end-worked t l) (openOf t o) (a .limit) (rowOf t o) (a .k) (c .before .run .result) _ _ (c .before .run .ensures)
-    (c .times2 .ensures ∙ ap (λ (e : Link). times (λ d. value d e) (c .before .run .result .figure)) (end-link t (l .before .before .before .before .before)))
+    let link = end-link t (l .before .before .before .before .before .before .before) in
+    let multiplies = end-chosen t (l .before .before .before .before .before .before) in
+    let f = c .before .run .result .figure in
+    factored-worked (end-multiplies t l) (end-worked t l) (openOf t o) (a .limit) (rowOf t o) (a .k) (c .before .run .result) _ _ (c .before .run .ensures)
+    (c .end-of2 .ensures ∙ (λ j. cond (multiplies j) (times (λ d. value d (link j)) f) f))
     refl
 
 -- ---- two links in series
@@ -340,12 +404,15 @@ run-link-at-requires-2 t c κs = series-fits t c .placed .1 .below
 run-link-at-requires-3 : (t : ℕ) → run-lts.Need-link-at-requires-3 (claims t) (run-at t) run.Post
 run-link-at-requires-3 t c κs = series-fits t (c .before) .placed .2 .below
 
+run-has-requires-2 : (t : ℕ) → run-lts.Need-has-requires-2 (claims t) (run-at t) run.Post
+run-has-requires-2 t c κs = omega (arith, series-fits t (c .before .before) .placed .0)
+
 run-assembled-requires-2 : (t : ℕ) → run-lts.Need-assembled-requires-2 (claims t) (run-at t) run.Post
 run-assembled-requires-2 t c κs = search needs
 
 run-series-requires : (t : ℕ) → run-lts.Need-series-requires (claims t) (run-at t) run.Post
 run-series-requires t c κs =
-    let k = c .before .before .before in
+    let k = c .before .before .before .before in
     let e = c .assembled2 .ensures in
     (put-together t (series-told t k) e, moved-fits (sym e) (series-fits t k))
 
@@ -354,41 +421,45 @@ abbrev Series-left : ℕ → Type 0
 Series-left t = run-lts.After-series (claims t) (run-at t) run.Post
 
 abbrev series-of : (t : ℕ) → Series-left t → Series-known t
-series-of t l = l .before .before .before .before
+series-of t l = l .before .before .before .before .before
 
-abbrev series-graph : (t : ℕ) → Series-left t → Graph
+abbrev series-graph : (t : ℕ) → Series-left t → Terminals
 series-graph t l =
     let k = series-of t l in
     let n = net t (series-told t k) in
     let p = k .before .v2 .given .0 in
-    removed (p .0) (joined (indexOf n (p .1 .0)) (indexOf n (p .1 .1 .0)) (inSeries (p .0) (linkOf n (p .1 .0)) (linkOf n (p .1 .1 .0))) (networkOf n))
+    seriesLeft (p .0) (indexOf n (p .1 .0)) (indexOf n (p .1 .1 .0)) (terminalsOf n)
 
-series-is : (t : ℕ) (l : Series-left t) → networkOf (l .series .result) ≡ series-graph t l
+series-is : (t : ℕ) (l : Series-left t) → terminalsOf (l .series .result) ≡ series-graph t l
 series-is t l =
     let p = series-of t l .before .v2 .given .0 in
-    l .series .ensures .0
-    ∙ ap (λ (n : Network). removed (p .0) (joined (indexOf n (p .1 .0)) (indexOf n (p .1 .1 .0)) (inSeries (p .0) (linkOf n (p .1 .0)) (linkOf n (p .1 .1 .0))) (networkOf n))) (l .before .assembled2 .ensures)
+    l .series .ensures .0 ∙ ap (λ (n : Network). seriesLeft (p .0) (indexOf n (p .1 .0)) (indexOf n (p .1 .1 .0)) (terminalsOf n)) (l .before .assembled2 .ensures)
 
 series-plainly : (t : ℕ) (l : Series-left t) → Plain (series-graph t l)
 series-plainly t l = let k = series-of t l in series-left (net t (series-told t k)) (workable t (series-told t k)) _ _ _ (series-fits t k)
 
 run-parallel-requires : (t : ℕ) → run-lts.Need-parallel-requires (claims t) (run-at t) run.Post
 run-parallel-requires t c κs =
-    (c .series .ensures .1, subst Plain (sym (series-is t c)) (series-plainly t c))
+    (c .series .ensures .1, subst Plain (sym (series-is t c)) (series-plainly t c) .loopless)
 
 -- and its pairs joined
 abbrev Series-joined : ℕ → Type 0
 Series-joined t = run-lts.After-parallel (claims t) (run-at t) run.Post
 
-series-worked : (t : ℕ) (q : Series-joined t) → let k = series-of t (q .before) in let n = net t (series-told t k) in let p = k .before .v2 .given .0 in
-    tree (networkOf n) ≡ multiplied (λ d. factor d (value d (linkOf n (p .1 .0))) (value d (linkOf n (p .1 .1 .0)))) (tree (networkOf (q .parallel .result)))
+-- whether it multiplies
+abbrev series-multiplies : (t : ℕ) → Series-left t → Bool
+series-multiplies t l = let k = series-of t l in listing (k .before .v2 .given .0 .0) (chosenOf (net t (series-told t k)))
+
+series-worked : (t : ℕ) (q : Series-joined t) → let k = series-of t (q .before) in let n = net t (series-told t k) in let p = k .before .v2 .given .0 in let u = tree (terminalsOf (q .parallel .result)) in
+    tree (terminalsOf n) ≡ cond (series-multiplies t (q .before)) (multiplied (λ d. factor d (value d (linkOf n (p .1 .0))) (value d (linkOf n (p .1 .1 .0)))) u) u
 series-worked t q =
     let l = q .before in
     let k = series-of t l in
     let n = net t (series-told t k) in
     let p = k .before .v2 .given .0 in
     series-tree n (workable t (series-told t k)) _ _ _ (series-fits t k)
-    ∙ ap (multiplied (λ d. factor d (value d (linkOf n (p .1 .0))) (value d (linkOf n (p .1 .1 .0))))) (unpaired-same (series-plainly t l) (l .series .result) (q .parallel .result) (series-is t l) (q .parallel .ensures .0))
+    ∙ ap (λ (u : Tree). cond (series-multiplies t l) (multiplied (λ d. factor d (value d (linkOf n (p .1 .0))) (value d (linkOf n (p .1 .1 .0)))) u) u)
+    (unpaired-same (series-plainly t l) (l .series .result) (q .parallel .result) (series-is t l) (q .parallel .ensures .0))
 
 run-run-requires-2 : (t : ℕ) → run-lts.Need-run-requires-2 (claims t) (run-at t) run.Post
 run-run-requires-2 t c κs =
@@ -400,11 +471,11 @@ run-run-requires-2 t c κs =
     let n = net t o in
     let a = o .before .args in
     let r = l .series .result in
-    let few = unpaired-less (series-plainly t l) r (q .result) (series-is t l) (q .ensures .0) (networkOf n) (series-below n (workable t o) _ _ _ (series-fits t k)) in (
+    let few = unpaired-less (series-plainly t l) r (q .result) (series-is t l) (q .ensures .0) (terminalsOf n) (series-below n (workable t o) _ _ _ (series-fits t k)) in (
       less t o _ few,
       (
         (unpaired-work (series-plainly t l) r (q .result) (series-is t l) (q .ensures .0) (sized-of (q .lifetimes) (q .result) (q .ok)) (q .ensures .1), omega (arith, o .before .pre .1 .0 .1)),
-        (omega (arith, few, room t o), factor-carries (series-worked t j) (rowOf t o) (a .k) (a .left) (carries t o)),
+        (omega (arith, few, room t o), factored-carries (series-multiplies t l) (series-worked t j) (rowOf t o) (a .k) (a .left) (carries t o)),
       ),
     )
 
@@ -413,14 +484,14 @@ module _ (t : ℕ) (l : Series-left t) where
   abbrev series-state : Told t
   series-state = series-told t (series-of t l)
 
-  series-first : l .before .before .before .link-at2 .result ≡ linkOf (net t series-state) (series-of t l .before .v2 .given .0 .1 .0)
-  series-first = let x = l .before .before .before .link-at2 in link-is (net t series-state) (workable t series-state) (x .result) _ (series-fits t (series-of t l) .placed .1) (x .ensures)
+  series-first : l .before .before .before .before .link-at2 .result ≡ linkOf (net t series-state) (series-of t l .before .v2 .given .0 .1 .0)
+  series-first = let x = l .before .before .before .before .link-at2 in link-is (net t series-state) (workable t series-state) (x .result) _ (series-fits t (series-of t l) .placed .1) (x .ensures)
 
-  series-second : l .before .before .link-at3 .result ≡ linkOf (net t series-state) (series-of t l .before .v2 .given .0 .1 .1 .0)
-  series-second = let y = l .before .before .link-at3 in link-is (net t series-state) (workable t series-state) (y .result) _ (series-fits t (series-of t l) .placed .2) (y .ensures)
+  series-second : l .before .before .before .link-at3 .result ≡ linkOf (net t series-state) (series-of t l .before .v2 .given .0 .1 .1 .0)
+  series-second = let y = l .before .before .before .link-at3 in link-is (net t series-state) (workable t series-state) (y .result) _ (series-fits t (series-of t l) .placed .2) (y .ensures)
 
-run-times-factor-requires : (t : ℕ) → run-lts.Need-times-factor-requires (claims t) (run-at t) run.Post
-run-times-factor-requires t c κs =
+run-series-of-requires : (t : ℕ) → run-lts.Need-series-of-requires (claims t) (run-at t) run.Post
+run-series-of-requires t c κs =
     let j = c .before .before .before .before .before .before .before .before in
     let l = j .before in
     let k = series-of t l in
@@ -430,7 +501,7 @@ run-times-factor-requires t c κs =
     let u = series-fits t k .placed in
     let e = link-within (net t o) (w .holds) (w .sized) _ _ (u .1) (series-first t l) in
     let h = link-within (net t o) (w .holds) (w .sized) _ _ (u .2) (series-second t l) in
-    let f = rest-within t o (j .parallel .result) (j .parallel .ensures .1) (c .run2 .result) _ _ (factor-carries (series-worked t j) (rowOf t o) (a .k) (a .left) (carries t o)) (c .run2 .ensures) in
+    let f = rest-within t o (j .parallel .result) (j .parallel .ensures .1) (c .run2 .result) _ _ (factored-carries (series-multiplies t l) (series-worked t j) (rowOf t o) (a .k) (a .left) (carries t o)) (c .run2 .ensures) in
     (omega (arith, e, h), omega (arith, e, h), omega (arith, e, h), omega (arith, e, h), f .0, f .1)
 
 run-returns-6 : (t : ℕ) → run-lts.Need-returns-6 (claims t) (run-at t) run.Post
@@ -439,8 +510,11 @@ run-returns-6 t c =
     let l = j .before in
     let o = series-told t (series-of t l) in
     let a = o .before .args in
-    factor-worked (series-worked t j) (openOf t o) (a .limit) (rowOf t o) (a .k) (c .before .run2 .result) _ _ (c .before .run2 .ensures)
-    (c .times-factor .ensures ∙ ap₂ (λ (e h : Link). times (λ d. factor d (value d e) (value d h)) (c .before .run2 .result .figure)) (series-first t l) (series-second t l))
+    let h = l .before .before .has2 in
+    let multiplies = h .ensures ∙ sym (listed-has (net t o .chosen) _) in
+    let f = c .before .run2 .result .figure in
+    factored-worked (series-multiplies t l) (series-worked t j) (openOf t o) (a .limit) (rowOf t o) (a .k) (c .before .run2 .result) _ _ (c .before .run2 .ensures)
+    (c .series-of .ensures ∙ (λ i. cond (multiplies i) (times (λ d. factor d (value d (series-first t l i)) (value d (series-second t l i))) f) f))
     refl
 
 -- ---- a split
@@ -498,13 +572,13 @@ module _ (t : ℕ) (k : Split-known t) where
   abbrev link : Link
   link = linkOf n place
 
-  abbrev broken : Graph
-  broken = deleted (indexOf n place) (networkOf n)
+  abbrev broken : Terminals
+  broken = brokenLeft (indexOf n place) (terminalsOf n)
 
-  abbrev sound : Graph
-  sound = contracted link broken
+  abbrev sound : Terminals
+  sound = soundLeft (indexOf n place) (terminalsOf n)
 
-  split-is : tree (networkOf n) ≡ fork (indexOf n first) (works n (workable t told))
+  split-is : tree (terminalsOf n) ≡ fork (indexOf n first) (works n (workable t told))
   split-is = split-tree n (workable t told) first chosen-fits
 
   -- it stands at the place of the next open split, else at the chosen place
@@ -518,7 +592,7 @@ module _ (t : ℕ) (k : Split-known t) where
       (λ some. on ∙ split-placed (n .alive) first row (given .args .k) (given .args .left) (omega arith)
       (open-place split-is row (given .args .k) (given .args .left) (carries t told) some))
 
-  taking : Taking (tree (networkOf n)) (indexOf n place) link (tree sound) (tree broken) (getD (given .args .row .now) (3 * given .args .k) 0) (given .args .left)
+  taking : Taking (tree (terminalsOf n)) (indexOf n place) link (tree sound) (tree broken) (getD (given .args .row .now) (3 * given .args .k) 0) (given .args .left)
   taking = record { chosen = indexOf n first; work = works n (workable t told); is = split-is; at = split-work n (workable t told) first chosen-fits place used; place = stands }
 
   split-differ : linkOf n place .a ≡ linkOf n place .b → ⊥
@@ -527,17 +601,17 @@ module _ (t : ℕ) (k : Split-known t) where
   sound-plainly : Plain sound
   sound-plainly = sound-left n (workable t told) first chosen-fits place used
 
-  sound-fewer : Below (networkOf n) sound
+  sound-fewer : Below (terminalsOf n) sound
   sound-fewer = sound-below n (workable t told) first chosen-fits place used
 
-  broken-fewer : Below (networkOf n) broken
+  broken-fewer : Below (terminalsOf n) broken
   broken-fewer = broken-below n (workable t told) first chosen-fits place used
 
   sound-deep : Deep 64 (tree sound)
-  sound-deep = let b = sound-fewer in deeper _ 64 (tree sound) (omega (arith, b .fewer, room t told)) (tree-deep sound (b .valid))
+  sound-deep = let b = sound-fewer in deeper _ 64 (tree sound) (omega (arith, b .fewer, room t told)) (terminals-deep sound (b .valid))
 
   broken-deep : Deep 64 (tree broken)
-  broken-deep = let b = broken-fewer in deeper _ 64 (tree broken) (omega (arith, b .fewer, room t told)) (tree-deep broken (b .valid))
+  broken-deep = let b = broken-fewer in deeper _ 64 (tree broken) (omega (arith, b .fewer, room t told)) (terminals-deep broken (b .valid))
 
   row-room : given .args .k < 64
   row-room = room-for t told first chosen-fits
@@ -595,19 +669,19 @@ Contracted t = run-lts.After-contracted (claims t) (run-at t) run.Post
 abbrev chosen-at : (t : ℕ) → Contracted t → Split-known t
 chosen-at t l = split-of t (l .before .before .before)
 
-sound-is : (t : ℕ) (l : Contracted t) → networkOf (l .contracted .result) ≡ sound t (chosen-at t l)
+sound-is : (t : ℕ) (l : Contracted t) → terminalsOf (l .contracted .result) ≡ sound t (chosen-at t l)
 sound-is t l =
     let i = place t (chosen-at t l) in
-    l .contracted .ensures .0 ∙ ap (λ (n : Network). contracted (linkOf n i) (deleted (indexOf n i) (networkOf n))) (l .before .assembled3 .ensures)
+    l .contracted .ensures .0 ∙ ap (λ (n : Network). soundLeft (indexOf n i) (terminalsOf n)) (l .before .assembled3 .ensures)
 
 run-parallel-requires-2 : (t : ℕ) → run-lts.Need-parallel-requires-2 (claims t) (run-at t) run.Post
 run-parallel-requires-2 t c κs =
-    (c .contracted .ensures .1, subst Plain (sym (sound-is t c)) (sound-plainly t (chosen-at t c)))
+    (c .contracted .ensures .1, subst Plain (sym (sound-is t c)) (sound-plainly t (chosen-at t c)) .loopless)
 
 abbrev Sound-joined : ℕ → Type 0
 Sound-joined t = run-lts.After-parallel2 (claims t) (run-at t) run.Post
 
-sound-worked : (t : ℕ) (q : Sound-joined t) → tree (sound t (chosen-at t (q .before))) ≡ tree (networkOf (q .parallel2 .result))
+sound-worked : (t : ℕ) (q : Sound-joined t) → tree (sound t (chosen-at t (q .before))) ≡ tree (terminalsOf (q .parallel2 .result))
 sound-worked t q = let l = q .before in unpaired-same (sound-plainly t (chosen-at t l)) (l .contracted .result) (q .parallel2 .result) (sound-is t l) (q .parallel2 .ensures .0)
 
 -- what is asked of the row, before the branches
@@ -648,19 +722,19 @@ module _ (t : ℕ) (q : Asked t) where
 
   sound-bounds : Ranged S₁
   sound-bounds =
-      sound-ranged (tree (networkOf (n t state))) (indexOf (n t state) (place t state)) (link t state) (tree (sound t state)) (tree (broken t state)) row depth-at splits-left inner (taking t state) (q .before .before .behind .ensures) isIt (q .is-known .ensures) (carries t (told t state))
-      (tree-ranged (sound t state) (sound-fewer t state .valid))
+      sound-ranged (tree (terminalsOf (n t state))) (indexOf (n t state) (place t state)) (link t state) (tree (sound t state)) (tree (broken t state)) row depth-at splits-left inner (taking t state) (q .before .before .behind .ensures) isIt (q .is-known .ensures) (carries t (told t state))
+      (terminals-ranged (sound t state) (sound-fewer t state .valid))
 
   broken-bounds : Ranged B₁
   broken-bounds =
-      broken-ranged (tree (networkOf (n t state))) (indexOf (n t state) (place t state)) (link t state) (tree (sound t state)) (tree (broken t state)) row depth-at splits-left inner (taking t state) (q .before .before .behind .ensures) isIt (q .is-known .ensures) (carries t (told t state))
-      (tree-ranged (broken t state) (broken-fewer t state .valid))
+      broken-ranged (tree (terminalsOf (n t state))) (indexOf (n t state) (place t state)) (link t state) (tree (sound t state)) (tree (broken t state)) row depth-at splits-left inner (taking t state) (q .before .before .behind .ensures) isIt (q .is-known .ensures) (carries t (told t state))
+      (terminals-ranged (broken t state) (broken-fewer t state .valid))
 
   sound-open : (l : ℕ) → length (aside S₁ l) ≤ 64
-  sound-open = sound-few (tree (networkOf (n t state))) (indexOf (n t state) (place t state)) (link t state) (tree (sound t state)) (tree (broken t state)) row depth-at splits-left inner (taking t state) (q .before .before .behind .ensures) isIt (q .is-known .ensures) (carries t (told t state)) 64 (sound-deep t state)
+  sound-open = sound-few (tree (terminalsOf (n t state))) (indexOf (n t state) (place t state)) (link t state) (tree (sound t state)) (tree (broken t state)) row depth-at splits-left inner (taking t state) (q .before .before .behind .ensures) isIt (q .is-known .ensures) (carries t (told t state)) 64 (sound-deep t state)
 
   broken-open : (l : ℕ) → length (aside B₁ l) ≤ 64
-  broken-open = broken-few (tree (networkOf (n t state))) (indexOf (n t state) (place t state)) (link t state) (tree (sound t state)) (tree (broken t state)) row depth-at splits-left inner (taking t state) (q .before .before .behind .ensures) isIt (q .is-known .ensures) (carries t (told t state)) 64 (broken-deep t state)
+  broken-open = broken-few (tree (terminalsOf (n t state))) (indexOf (n t state) (place t state)) (link t state) (tree (sound t state)) (tree (broken t state)) row depth-at splits-left inner (taking t state) (q .before .before .behind .ensures) isIt (q .is-known .ensures) (carries t (told t state)) 64 (broken-deep t state)
 
 run-add-run : (t : ℕ) → run-lts.Need-add-run (claims t) (run-at t) run.Post
 run-add-run t c =
@@ -678,8 +752,8 @@ run-run-requires-3 t c κs =
     let o = told t s in
     let n = net t o in
     let r = l .contracted .result in
-    let few = unpaired-less (sound-plainly t s) r (p .result) (sound-is t l) (p .ensures .0) (networkOf n) (sound-fewer t s) in
-    let carried = sound-carries (tree (networkOf n)) (indexOf n (place t s)) (link t s) (tree (sound t s)) (tree (broken t s)) (row t q) (depth-at t q) (splits-left t q) (inner t q) (taking t s) (q .before .before .behind .ensures) (isIt t q) (q .is-known .ensures) (carries t (told t s)) (e .if3 .left) in (
+    let few = unpaired-less (sound-plainly t s) r (p .result) (sound-is t l) (p .ensures .0) (terminalsOf n) (sound-fewer t s) in
+    let carried = sound-carries (tree (terminalsOf n)) (indexOf n (place t s)) (link t s) (tree (sound t s)) (tree (broken t s)) (row t q) (depth-at t q) (splits-left t q) (inner t q) (taking t s) (q .before .before .behind .ensures) (isIt t q) (q .is-known .ensures) (carries t (told t s)) (e .if3 .left) in (
       less t o _ few,
       (
         (unpaired-work (sound-plainly t s) r (p .result) (sound-is t l) (p .ensures .0) (sized-of (p .lifetimes) (p .result) (p .ok)) (p .ensures .1), omega (arith, o .before .pre .1 .0 .1)),
@@ -695,12 +769,12 @@ abbrev asked-of : (t : ℕ) → Ran t → Asked t
 asked-of t w = w .before .before .before .before .before .before .before .before .before .before .before .before
 
 ran-worked : (t : ℕ) (w : Ran t) → let q = asked-of t w in
-    Worked (soundOf (tree (sound t (state t q))) (row t q) (depth-at t q) (inner t q) false) (limit t q - own t q) (row t q) (suc (depth-at t q)) (w .run3 .result) (w .run3 .last .1 .1 .1 .1 .1 .1 .1 .1 .0)
+    Worked (soundOf (tree (sound t (state t q))) (row t q) (depth-at t q) (inner t q) false) (limit t q - own t q) (row t q) (suc (depth-at t q)) (w .run3 .result) (w .run3 .last .1 .1 .1 .1 .1 .1 .1 .1 .1 .0)
 ran-worked t w =
     let j = w .before .before .before .before .before .before .before .before in
     let q = asked-of t w in
     let k = depth-at t q in
-    let after = w .run3 .last .1 .1 .1 .1 .1 .1 .1 .1 .0 in
+    let after = w .run3 .last .1 .1 .1 .1 .1 .1 .1 .1 .1 .0 in
     subst (λ (x : ℕ). Worked (resumed (tree (sound t (state t q))) (opensIn (row t q) x (inner t q))) (limit t q - own t q) (row t q) x (w .run3 .result) after) (add-one k)
     (subst (λ (u : Tree). Worked (resumed u (opensIn (row t q) (k + 1) (inner t q))) (limit t q - own t q) (row t q) (k + 1) (w .run3 .result) after) (sym (sound-worked t j)) (w .run3 .ensures))
 
@@ -776,8 +850,8 @@ module _ (t : ℕ) (m : Met t) where
 
 -- ---- the broken branch
 
-run-without-requires-2 : (t : ℕ) → run-lts.Need-without-requires-2 (claims t) (run-at t) run.Post
-run-without-requires-2 t c κs = used t (state t (at t c)) .below
+run-without-requires : (t : ℕ) → run-lts.Need-without-requires (claims t) (run-at t) run.Post
+run-without-requires t c κs = used t (state t (at t c)) .below
 
 run-take-out-requires : (t : ℕ) → run-lts.Need-take-out-requires (claims t) (run-at t) run.Post
 run-take-out-requires t c κs =
@@ -807,18 +881,33 @@ module _ (t : ℕ) (x : Taken t) where
   abbrev without-it : Network
   without-it =
       let n = net t (told t splitting) in
-      record { alive = x .before .before .before .before .before .without2 .result; at = x .take-out2 .last .0; low = n .low; high = n .high; a = n .a; b = n .b; nodes = n .nodes }
+      record { alive = x .before .before .before .before .before .without .result; at = x .take-out2 .last .0; low = n .low; high = n .high; a = n .a; b = n .b; nodes = n .nodes; chosen = n .chosen }
 
-  without-is : (networkOf without-it ≡ broken t splitting) × Invariant without-it
-  without-is = broken-is (net t (told t splitting)) (workable t (told t splitting)) (first t splitting) (chosen-fits t splitting) (place t splitting) (used t splitting) (chosen t met) (chosen-row t met) (x .before .before .before .before .before .without2 .result) _ _ (x .before .before .before .before .before .without2 .ensures) (x .before .before .take-out .ensures) (x .take-out2 .ensures)
+  without-is : (terminalsOf without-it ≡ broken t splitting) × Invariant without-it
+  without-is = broken-is (net t (told t splitting)) (workable t (told t splitting)) (first t splitting) (chosen-fits t splitting) (place t splitting) (used t splitting) (chosen t met) (chosen-row t met) (x .before .before .before .before .before .without .result) _ _ (x .before .before .before .before .before .without .ensures) (x .before .before .take-out .ensures) (x .take-out2 .ensures)
 
   without-sized : Sized without-it
-  without-sized = broken-sized (net t (told t splitting)) (workable t (told t splitting)) (first t splitting) (chosen-fits t splitting) (place t splitting) (used t splitting) (chosen t met) (chosen-row t met) (x .before .before .before .before .before .without2 .result) _ _ (x .before .before .before .before .before .without2 .ensures) (x .before .before .take-out .ensures) (x .take-out2 .ensures)
+  without-sized = broken-sized (net t (told t splitting)) (workable t (told t splitting)) (first t splitting) (chosen-fits t splitting) (place t splitting) (used t splitting) (chosen t met) (chosen-row t met) (x .before .before .before .before .before .without .result) _ _ (x .before .before .before .before .before .without .ensures) (x .before .before .take-out .ensures) (x .take-out2 .ensures)
 
-run-count-requires : (t : ℕ) → run-lts.Need-count-requires (claims t) (run-at t) run.Post
-run-count-requires t c κs =
-    let x = c .before in
-    (without-sized t x .nodes, without-is t x .1 .tallies, ended (without-it t x) (without-sized t x) (without-is t x .1 .valid))
+  without-loopless : Loopless (networkOf without-it)
+  without-loopless = broken-loopless (net t (told t splitting)) (workable t (told t splitting)) (first t splitting) (chosen-fits t splitting) (place t splitting) (used t splitting) (chosen t met) (chosen-row t met) (x .before .before .before .before .before .without .result) _ _ (x .before .before .before .before .before .without .ensures) (x .before .before .take-out .ensures) (x .take-out2 .ensures)
+
+  without-pairless : Pairless (networkOf without-it)
+  without-pairless = broken-pairless (net t (told t splitting)) (workable t (told t splitting)) (first t splitting) (chosen-fits t splitting) (place t splitting) (used t splitting) (chosen t met) (chosen-row t met) (x .before .before .before .before .before .without .result) _ _ (x .before .before .before .before .before .without .ensures) (x .before .before .take-out .ensures) (x .take-out2 .ensures)
+
+  without-several : 1 < length (chosenOf without-it)
+  without-several = several (net t (told t splitting)) (workable t (told t splitting)) (first t splitting) (chosen-fits t splitting)
+
+run-lowest-requires : (t : ℕ) → run-lts.Need-lowest-requires (claims t) (run-at t) run.Post
+run-lowest-requires t c κs = search needs
+
+run-piece-of-requires : (t : ℕ) → run-lts.Need-piece-of-requires (claims t) (run-at t) run.Post
+run-piece-of-requires t c κs =
+    let x = c .before .before in
+    piece-asked (without-it t x) (without-sized t x) (without-is t x .1) (without-several t x) _ (c .before .lowest .ensures)
+
+run-difference-requires : (t : ℕ) → run-lts.Need-difference-requires (claims t) (run-at t) run.Post
+run-difference-requires t c κs = search needs
 
 run-settled-requires-3 : (t : ℕ) → run-lts.Need-settled-requires-3 (claims t) (run-at t) run.Post
 run-settled-requires-3 t c κs = search needs
@@ -826,24 +915,30 @@ run-settled-requires-3 t c κs = search needs
 run-whole-requires-4 : (t : ℕ) → run-lts.Need-whole-requires-4 (claims t) (run-at t) run.Post
 run-whole-requires-4 t c κs = search needs
 
-abbrev Counted : ℕ → Type 0
-Counted t = run-lts.After-count (claims t) (run-at t) run.Post
+-- whether the chosen nodes are in one piece
+abbrev Tested : ℕ → Type 0
+Tested t = run-lts.After-difference (claims t) (run-at t) run.Post
 
-module _ (t : ℕ) (n : Counted t) where
+module _ (t : ℕ) (n : Tested t) where
   abbrev taken-out : Taken t
-  taken-out = n .before .before
+  taken-out = n .before .before .before .before
 
-  without-apart : 1 < n .count .result → tree (broken t (splitting t taken-out)) ≡ ready (λ d. 0)
-  without-apart =
-      let x = taken-out in
-      let s = splitting t x in
-      broken-apart (net t (told t s)) (workable t (told t s)) (first t s) (chosen-fits t s) (place t s) (used t s) (chosen t (met t x)) (chosen-row t (met t x)) (x .before .before .before .before .before .without2 .result) _ _ (x .before .before .before .before .before .without2 .ensures) (x .before .before .take-out .ensures) (x .take-out2 .ensures) (n .count .result) (n .count .ensures)
+  abbrev out : Network
+  out = without-it t taken-out
 
-  without-work : n .count .result ≤ 1 → Workable (without-it t taken-out)
-  without-work =
-      let x = taken-out in
-      let s = splitting t x in
-      broken-work (net t (told t s)) (workable t (told t s)) (first t s) (chosen-fits t s) (place t s) (used t s) (chosen t (met t x)) (chosen-row t (met t x)) (x .before .before .before .before .before .without2 .result) _ _ (x .before .before .before .before .before .without2 .ensures) (x .before .before .take-out .ensures) (x .take-out2 .ensures) (n .count .result) (n .count .ensures)
+  abbrev piece : ℕ
+  piece = n .before .piece-of .result
+
+  abbrev outside : ℕ
+  outside = n .difference .result
+
+  chosen-piece : ChosenPiece out piece
+  chosen-piece = subst (PieceOf piece (out .nodes) (endsIn (out .alive) (out .a) (out .b))) (n .before .before .before .lowest .ensures) (n .before .piece-of .ensures)
+
+  without-apart : (outside ≡ 0 → ⊥) → tree (broken t (splitting t taken-out)) ≡ ready (λ d. 0)
+  without-apart some =
+      ap tree (sym (without-is t taken-out .0))
+      ∙ broken-apart out (without-sized t taken-out) (without-is t taken-out .1) (without-several t taken-out) piece chosen-piece outside (n .difference .ensures) some
 
 -- ---- the split, from what its branches gave
 
@@ -852,12 +947,12 @@ module _ (t : ℕ) (m : Met t) where
       Worked (B₁ t q) (limit t q - own t q - m .if3 .sound .figure .steps) (m .if3 .row) (suc (depth-at t q)) b end
       → r .figure ≡ more (own t q) (mixed (chosen t m) (m .if3 .sound .figure) (b .figure)) → r .aside ≡ ownCount (m .if3 .sound .figure) (b .figure) (m .if3 .sound .aside) (b .aside)
       → after ≡ sets end (3 * depth-at t q) (ownEntry (q .before .before .before .before .place .result) (m .if3 .sound .figure) (b .figure))
-      → Worked (resumed (tree (networkOf (n t (state t q)))) (openOf t (told t (state t q)))) (limit t q) (row t q) (depth-at t q) r after
+      → Worked (resumed (tree (terminalsOf (n t (state t q)))) (openOf t (told t (state t q)))) (limit t q) (row t q) (depth-at t q) r after
   closing b r end after worked figure count written =
       let q = at t m in
       let s = state t q in
-      (split-worked (tree (networkOf (n t s))) (indexOf (n t s) (place t s)) (link t s) (tree (sound t s)) (tree (broken t s)) (row t q) (depth-at t q) (splits-left t q) (inner t q) (taking t s) (q .before .before .behind .ensures) (isIt t q) (q .is-known .ensures) (own t q) (q .before .before .before .own-steps .ensures) (limit t q) (going t q)
-      (tree-fresh (broken t s) (broken-fewer t s .valid)) (m .if3 .sound) b r (m .if3 .row) end after (sound-given t m .0) worked
+      (split-worked (tree (terminalsOf (n t s))) (indexOf (n t s) (place t s)) (link t s) (tree (sound t s)) (tree (broken t s)) (row t q) (depth-at t q) (splits-left t q) (inner t q) (taking t s) (q .before .before .behind .ensures) (isIt t q) (q .is-known .ensures) (own t q) (q .before .before .before .own-steps .ensures) (limit t q) (going t q)
+      (terminals-fresh (broken t s) (broken-fewer t s .valid)) (m .if3 .sound) b r (m .if3 .row) end after (sound-given t m .0) worked
       (figure ∙ ap (λ (e : Link). more (own t q) (mixed e (m .if3 .sound .figure) (b .figure))) (chosen-link t m)) count
       (written ∙ ap (λ (i : ℕ). sets end (3 * depth-at t q) (ownEntry i (m .if3 .sound .figure) (b .figure))) (q .before .before .before .before .place .ensures)))
 
@@ -870,11 +965,11 @@ abbrev Apart : ℕ → Type 0
 Apart t = run-lts.After-whole4 (claims t) (run-at t) run.Post
 
 module _ (t : ℕ) (c : Apart t) where
-  abbrev apart-counted : Counted t
-  apart-counted = c .before .before .before
+  abbrev apart-tested : Tested t
+  apart-tested = c .before .before .before
 
   abbrev apart-met : Met t
-  apart-met = met t (taken-out t apart-counted)
+  apart-met = met t (taken-out t apart-tested)
 
   apart-figure : c .whole4 .result .figure ≡ bounded (λ d. 0) 0 true
   apart-figure = c .whole4 .ensures .0 ∙ c .before .settled3 .ensures
@@ -883,7 +978,7 @@ module _ (t : ℕ) (c : Apart t) where
   apart-worked l =
       let m = apart-met in
       let q = at t m in
-      let none = without-apart t apart-counted (omega (arith, c .before .before .if4 .taken)) in
+      let none = without-apart t apart-tested (λ none. eqb-false _ 0 (c .before .before .if4 .taken) none) in
       subst (λ (u : Tree). Worked u l (m .if3 .row) (suc (depth-at t q)) (c .whole4 .result) (m .if3 .row)) (sym (broken-ready none (row t q) (depth-at t q) (inner t q) (isIt t q)))
       (known-worked (λ d. 0) l (m .if3 .row) (suc (depth-at t q)) (c .whole4 .result) apart-figure (c .whole4 .ensures .1))
 
@@ -911,15 +1006,24 @@ run-returns-3 t c =
     let m = apart-met t w in
     closing t m (w .whole4 .result) (c .closed .result) (m .if3 .row) (c .closed .last .0) (apart-worked t w _) (c .closed .ensures .0) (c .closed .ensures .1 .0) (c .closed .ensures .1 .1)
 
--- it is worked
+-- it is worked, without the links outside of the piece
+run-difference-requires-2 : (t : ℕ) → run-lts.Need-difference-requires-2 (claims t) (run-at t) run.Post
+run-difference-requires-2 t c κs = search needs
+
+run-clear-requires : (t : ℕ) → run-lts.Need-clear-requires (claims t) (run-at t) run.Post
+run-clear-requires t c κs =
+    let n = c .before .before .before in
+    let x = taken-out t n in
+    (without-sized t x .at-length, others-fit (out t n) (without-sized t x) (piece t n) (c .difference2 .result) (search needs) (c .difference2 .ensures))
+
 run-cast-remains : (t : ℕ) → run-lts.Need-cast-remains (claims t) (run-at t) run.Post
 run-cast-remains t c = search needs
 
 run-sub-remains : (t : ℕ) → run-lts.Need-sub-remains (claims t) (run-at t) run.Post
-run-sub-remains t c = sound-figure t (met t (taken-out t (c .before .before))) .steps
+run-sub-remains t c = sound-figure t (met t (taken-out t (c .before .before .before .before .before))) .steps
 
 run-add-run-2 : (t : ℕ) → run-lts.Need-add-run-2 (claims t) (run-at t) run.Post
-run-add-run-2 t c = let m = met t (taken-out t (c .before .before .before .before)) in omega (arith, row-room t (state t (at t m)))
+run-add-run-2 t c = let m = met t (taken-out t (c .before .before .before .before .before .before .before)) in omega (arith, row-room t (state t (at t m)))
 
 run-of-broken-requires : (t : ℕ) → run-lts.Need-of-broken-requires (claims t) (run-at t) run.Post
 run-of-broken-requires t c κs = search needs
@@ -928,27 +1032,45 @@ abbrev Rest : ℕ → Type 0
 Rest t = run-lts.After-of-broken (claims t) (run-at t) run.Post
 
 module _ (t : ℕ) (c : Rest t) where
-  abbrev rest-counted : Counted t
-  rest-counted = c .before .before .before .before .before
+  abbrev rest-tested : Tested t
+  rest-tested = c .before .before .before .before .before .before .before .before
 
   abbrev rest-out : Taken t
-  rest-out = taken-out t rest-counted
+  rest-out = taken-out t rest-tested
 
   abbrev rest-met : Met t
   rest-met = met t rest-out
 
-  -- the row and the open splits that it is handed
-  rest-tree : tree (broken t (splitting t rest-out)) ≡ tree (networkOf (without-it t rest-out))
-  rest-tree = ap tree (sym (without-is t rest-out .0))
+  -- what is left of it
+  abbrev left-of : Network
+  left-of = let n = out t rest-tested in record { alive = c .before .before .before .before .clear .result; at = c .before .before .before .before .clear .last .0; low = n .low; high = n .high; a = n .a; b = n .b; nodes = n .nodes; chosen = n .chosen }
 
-  rest-carries : let m = rest-met in let q = at t m in Carries (tree (networkOf (without-it t rest-out))) (m .if3 .row) (depth-at t q + 1) (c .of-broken .result)
+  none-outside : outside t rest-tested ≡ 0
+  none-outside = eqb-true _ 0 (c .before .before .before .before .before .before .before .if4 .left)
+
+  rest-work : Workable left-of
+  rest-work = broken-work (out t rest-tested) (without-sized t rest-out) (without-is t rest-out .1) (without-several t rest-out) (piece t rest-tested) (chosen-piece t rest-tested) (outside t rest-tested) (rest-tested .difference .ensures) none-outside (without-loopless t rest-out)
+      (c .before .before .before .before .before .difference2 .result) (c .before .before .before .before .clear .result) (c .before .before .before .before .clear .last .0) (c .before .before .before .before .before .difference2 .ensures) (c .before .before .before .before .clear .ensures .0) (c .before .before .before .before .clear .ensures .1) (without-pairless t rest-out)
+
+  rest-few : length (linksOf left-of) ≤ length (linksOf (out t rest-tested))
+  rest-few = broken-few (out t rest-tested) (without-sized t rest-out) (without-is t rest-out .1) (without-several t rest-out) (piece t rest-tested) (chosen-piece t rest-tested) (outside t rest-tested) (rest-tested .difference .ensures) none-outside (without-loopless t rest-out)
+      (c .before .before .before .before .before .difference2 .result) (c .before .before .before .before .clear .result) (c .before .before .before .before .clear .last .0) (c .before .before .before .before .before .difference2 .ensures) (c .before .before .before .before .clear .ensures .0) (c .before .before .before .before .clear .ensures .1)
+
+  -- the row and the open splits that it is handed
+  rest-tree : tree (broken t (splitting t rest-out)) ≡ tree (terminalsOf left-of)
+  rest-tree =
+      ap tree (sym (without-is t rest-out .0))
+      ∙ broken-same (out t rest-tested) (without-sized t rest-out) (without-is t rest-out .1) (without-several t rest-out) (piece t rest-tested) (chosen-piece t rest-tested) (outside t rest-tested) (rest-tested .difference .ensures) none-outside (without-loopless t rest-out)
+      (c .before .before .before .before .before .difference2 .result) (c .before .before .before .before .clear .result) (c .before .before .before .before .clear .last .0) (c .before .before .before .before .before .difference2 .ensures) (c .before .before .before .before .clear .ensures .0) (c .before .before .before .before .clear .ensures .1)
+
+  rest-carries : let m = rest-met in let q = at t m in Carries (tree (terminalsOf left-of)) (m .if3 .row) (depth-at t q + 1) (c .of-broken .result)
   rest-carries =
       let m = rest-met in
       let q = at t m in
       let s = state t q in
       subst (λ (u : Tree). Carries u (m .if3 .row) (depth-at t q + 1) (c .of-broken .result)) rest-tree
       (subst (λ (x : ℕ). Carries (tree (broken t s)) (m .if3 .row) x (c .of-broken .result)) (sym (add-one (depth-at t q)))
-      (broken-carries (tree (networkOf (n t s))) (indexOf (n t s) (place t s)) (link t s) (tree (sound t s)) (tree (broken t s)) (row t q) (depth-at t q) (splits-left t q) (inner t q) (taking t s) (q .before .before .behind .ensures) (isIt t q) (q .is-known .ensures) (carries t (told t s))
+      (broken-carries (tree (terminalsOf (n t s))) (indexOf (n t s) (place t s)) (link t s) (tree (sound t s)) (tree (broken t s)) (row t q) (depth-at t q) (splits-left t q) (inner t q) (taking t s) (q .before .before .behind .ensures) (isIt t q) (q .is-known .ensures) (carries t (told t s))
       (c .of-broken .result) (c .of-broken .ensures) (m .if3 .row) (sound-size t m) (sound-given t m .1)))
 
 run-run-requires-4 : (t : ℕ) → run-lts.Need-run-requires-4 (claims t) (run-at t) run.Post
@@ -956,10 +1078,11 @@ run-run-requires-4 t c κs =
     let x = rest-out t c in
     let s = splitting t x in
     let o = told t s in
-    let few = fewer (networkOf (net t o)) (without-it t x) (without-is t x .0) (broken-fewer t s) in (
+    let fewer-out = fewer (terminalsOf (net t o)) (without-it t x) (without-is t x .0) (broken-fewer t s) in
+    let few : length (linksOf (left-of t c)) < length (linksOf (net t o)) = omega (arith, fewer-out, rest-few t c) in (
       less t o _ few,
       (
-        (without-work t (rest-counted t c) (omega (arith, c .before .before .before .before .if4 .left)), omega (arith, o .before .pre .1 .0 .1)),
+        (rest-work t c, omega (arith, o .before .pre .1 .0 .1)),
         (omega (arith, few, room t o), rest-carries t c),
       ),
     )
@@ -972,7 +1095,7 @@ module _ (t : ℕ) (w : Done t) where
   done-met = rest-met t (w .before)
 
   abbrev done-row : List ℕ
-  done-row = w .run4 .last .1 .1 .1 .1 .1 .1 .1 .1 .0
+  done-row = w .run4 .last .1 .1 .1 .1 .1 .1 .1 .1 .1 .0
 
   broken-worked : let m = done-met in let q = at t m in Worked (B₁ t q) (limit t q - own t q - m .if3 .sound .figure .steps) (m .if3 .row) (suc (depth-at t q)) (w .run4 .result) done-row
   broken-worked =
@@ -984,7 +1107,7 @@ module _ (t : ℕ) (w : Done t) where
       let left = c .of-broken .result in
       let k = depth-at t q in
       subst (λ (u : Tree). Worked u l (m .if3 .row) (suc k) (w .run4 .result) done-row)
-      (broken-resumed (tree (networkOf (n t s))) (indexOf (n t s) (place t s)) (link t s) (tree (sound t s)) (tree (broken t s)) (row t q) k (splits-left t q) (inner t q) (taking t s) (q .before .before .behind .ensures) (isIt t q) (q .is-known .ensures) (carries t (told t s))
+      (broken-resumed (tree (terminalsOf (n t s))) (indexOf (n t s) (place t s)) (link t s) (tree (sound t s)) (tree (broken t s)) (row t q) k (splits-left t q) (inner t q) (taking t s) (q .before .before .behind .ensures) (isIt t q) (q .is-known .ensures) (carries t (told t s))
       left (c .of-broken .ensures) (m .if3 .row) (sound-given t m .1))
       (subst (λ (x : ℕ). Worked (resumed (tree (broken t s)) (opensIn (m .if3 .row) x left)) l (m .if3 .row) x (w .run4 .result) done-row) (add-one k)
       (subst (λ (u : Tree). Worked (resumed u (opensIn (m .if3 .row) (k + 1) left)) l (m .if3 .row) (k + 1) (w .run4 .result) done-row) (sym (rest-tree t c)) (w .run4 .ensures)))
@@ -1021,24 +1144,30 @@ pub +run-spec : {M : Type 1} → statement M
     (run-whole-requires t)
     (run-enum-known-v t)
     (run-link-at-requires t)
-    (run-without-requires t)
+    (run-has-requires t)
+    (run-cast-across t)
+    (run-across-requires t)
+    (run-cast-into t)
+    (run-into-requires t)
+    (run-cast-at-most-one t)
     (run-at-most-one-requires t)
     (run-settled-requires-2 t)
-    (run-times-requires t)
+    (run-end-of-requires t)
     (run-whole-requires-2 t)
     (run-returns t)
     (run-assembled-requires t)
     (run-end-requires t)
     (run-run-requires t)
-    (run-times-requires-2 t)
+    (run-end-of-requires-2 t)
     (run-enum-known-v-2 t)
     (run-link-at-requires-2 t)
     (run-link-at-requires-3 t)
+    (run-has-requires-2 t)
     (run-assembled-requires-2 t)
     (run-series-requires t)
     (run-parallel-requires t)
     (run-run-requires-2 t)
-    (run-times-factor-requires t)
+    (run-series-of-requires t)
     (run-enum-known-c t)
     (run-split-on-requires t)
     (run-stopped-requires t)
@@ -1058,14 +1187,18 @@ pub +run-spec : {M : Type 1} → statement M
     (run-parallel-requires-2 t)
     (run-add-run t)
     (run-run-requires-3 t)
-    (run-without-requires-2 t)
+    (run-without-requires t)
     (run-take-out-requires t)
     (run-take-out-requires-2 t)
-    (run-count-requires t)
+    (run-lowest-requires t)
+    (run-piece-of-requires t)
+    (run-difference-requires t)
     (run-settled-requires-3 t)
     (run-whole-requires-4 t)
     (run-closed-requires t)
     (run-returns-3 t)
+    (run-difference-requires-2 t)
+    (run-clear-requires t)
     (run-cast-remains t)
     (run-sub-remains t)
     (run-add-run-2 t)
