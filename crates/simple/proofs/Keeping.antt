@@ -16,15 +16,16 @@ use Rattle.reliability.specs.Simple.{Loopless, dropping, trimmed}
 use Rattle.reliability.proofs.Lists.{both-ways, not-true-false, or-true, every-at, every-of}
 use Rattle.reliability.proofs.Connection.{label-const, label-means, connected-means, connected-sound, one-more}
 use Rattle.reliability.proofs.Trimmed.{pieces-at-once}
-use Rattle.search.specs.Searches.{pick, nodesIn, endsIn, touching, Inside, Incidence}
+use Rattle.search.specs.Searches.{pick, nodesIn, endsIn, touching, Inside, Incidence, Bounded}
 use Rattle.search.proofs.Sets.{has, has-none, has-below, has-place, has-zip, has-mem, mem-has, same-length, at-node}
 use Rattle.search.proofs.Marks.{Lowest, length-places, lowest-of, lowest-in}
+use Rattle.pieces.specs.Pieces.{Closed}
 use Rattle.pieces.proofs.Flood.{mem-ends}
 use Rattle.parts.specs.Tallies.{Cleared, Remaining}
 use Rattle.parts.proofs.Laws.{counted}
 use Rattle.network.specs.declared.Network.{Network}
 use Rattle.network.specs.Places.{networkOf, terminalsOf, linksOf, nodesOf, chosenOf, Invariant, Sized}
-use Rattle.network.proofs.Ends.{links-ends, ended}
+use Rattle.network.proofs.Ends.{links-ends, ended, bounded}
 use Rattle.network.proofs.Picks.{row, rowAt, allRows, all-even, rows-at}
 use Rattle.network.proofs.Kept.{chosen-of, stands}
 use Rattle.simple.specs.Workable.{Several, ChosenPiece}
@@ -34,6 +35,15 @@ use Rattle.simple.specs.Workable.{Several, ChosenPiece}
 -- more than one node is chosen: the lowest is
 pub lowest-chosen : (n : Network) → Several n → has (n .chosen) (firstOf (members (n .chosen))) ≡ true
 lowest-chosen n several = lowest-in (n .chosen) _ (record { some = omega (arith, length-places (n .chosen)); first = refl })
+
+-- its piece can be asked for
+pub piece-asked : (n : Network) → Sized n → Invariant n → Several n → (v : ℕ) → v ≡ firstOf (members (n .chosen))
+    → (v < 32) × (has (n .nodes) v ≡ true) × Incidence (n .at) (n .alive) (n .a) (n .b) × Bounded (n .alive) (n .a) (n .b) × Closed (n .nodes) (n .alive) (n .a) (n .b)
+piece-asked n sized holds several v e =
+    let chosen : has (n .chosen) v ≡ true = rw e (lowest-chosen n several) in
+    let node = holds .inside v chosen in
+    let ends = ended n sized (holds .valid) in
+    (has-below (n .nodes) 32 v (sized .nodes) node, node, holds .tallies, bounded n sized (holds .valid), λ p u. ends p u .0 ∙ sym (ends p u .1))
 
 module _ (n : Network) (sized : Sized n) (several : Several n) (piece : ℕ) (of-piece : ChosenPiece n piece) where
   abbrev t : List Ends
