@@ -17,7 +17,7 @@ use Rattle.reliability.proofs.Lists.{both-ways, not-true-false, or-true, every-
 use Rattle.reliability.proofs.Connection.{label-const, label-means, connected-means, connected-sound, one-more}
 use Rattle.reliability.proofs.Trimmed.{pieces-at-once}
 use Rattle.search.specs.Searches.{pick, nodesIn, endsIn, touching, Inside, Incidence, Bounded}
-use Rattle.search.proofs.Sets.{has, has-none, has-below, has-place, has-zip, has-mem, mem-has, same-length, at-node}
+use Rattle.search.proofs.Sets.{has, has-none, has-below, has-place, has-fits, has-zip, has-mem, mem-has, same-length, at-node}
 use Rattle.search.proofs.Marks.{Lowest, length-places, lowest-of, lowest-in}
 use Rattle.pieces.specs.Pieces.{Closed}
 use Rattle.pieces.proofs.Flood.{mem-ends}
@@ -94,6 +94,12 @@ module _ (n : Network) (sized : Sized n) (several : Several n) (piece : ℕ) (of
         go false h = refl
 
 -- ---- the links outside of the piece go
+
+-- the nodes outside of it are nodes
+pub outside-fits : (n : Network) → Sized n → (piece others : ℕ) → members others ≡ difference (members (n .nodes)) (members piece) → others < 2 ^ 64 → others < 2 ^ 32
+outside-fits n sized piece others outside small = has-fits others 32 small (λ p h.
+    has-below (n .nodes) 32 p (sized .nodes)
+    (and-eq-true-iff (has (n .nodes) p) (not (has piece p)) .0 (sym (has-zip (λ b d. b && not d) refl others (n .nodes) piece outside p) ∙ h) .0))
 
 -- of the places in use those stay at which a test does not hold
 pub pick-dropping : (test : Link → Bool) (z : Link) (bs us : List Bool) (es : List Link) → length bs ≡ length us
