@@ -28,7 +28,7 @@ use Rattle.network.specs.Places.{networkOf, terminalsOf, linksOf, nodesOf, chos
 use Rattle.network.proofs.Ends.{links-ends, ended, bounded}
 use Rattle.network.proofs.Picks.{row, rowAt, allRows, all-even, rows-at}
 use Rattle.network.proofs.Kept.{chosen-of, stands}
-use Rattle.simple.specs.Workable.{Several, ChosenPiece}
+use Rattle.simple.specs.Begins.{Several, ChosenPiece}
 
 -- ---- the piece of the lowest chosen node
 

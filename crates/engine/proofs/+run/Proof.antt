@@ -8,7 +8,7 @@ use native.Mathlib.Omega.{arith}
 use lib.Dec.{eqb}
 use lib.ListN.{length, getD}
 use lib.Seq.{sets}
-use borrow.Author.Tests.{eqb-true, eqb-false, ne-eqb}
+use borrow.Author.Tests.{ne-eqb}
 use Rattle.rounding.specs.Rounding.{S, factor}
 use Rattle.reliability.specs.declared.Link.{Link}
 use Rattle.reliability.specs.declared.Figure.{Figure}
@@ -33,7 +33,8 @@ use Rattle.network.specs.Workable.{Workable}
 use Rattle.steps.specs.Simple.{stepOf}
 use Rattle.network.proofs.Made.{sized-of, fewer, unpaired-work, unpaired-same, unpaired-less}
 use Rattle.steps.proofs.Arms.{Within, moved-fits, link-within, one-tree, link-is, end-below, end-tree, last-end, end-work, series-left, series-below, series-tree, works, at-link, split-work, sound-left, sound-below, broken-below, split-tree, several, broken-is, broken-sized, broken-loopless, broken-pairless}
-use Rattle.simple.proofs.Broken.{piece-asked, others-fit, broken-apart, broken-work, broken-same, broken-few}
+use Rattle.simple.proofs.Keeping.{piece-asked, outside-fits}
+use Rattle.simple.proofs.Broken.{broken-apart, broken-work, broken-same, broken-few}
 use Rattle.sittings.specs.declared.Carried.{Carried}
 use Rattle.sittings.specs.Sittings.{Open, aside, resumed}
 use Rattle.sittings.specs.Entries.{opensIn, ownEntry, ownCount}
@@ -935,10 +936,10 @@ module _ (t : ℕ) (n : Tested t) where
   chosen-piece : ChosenPiece out piece
   chosen-piece = subst (PieceOf piece (out .nodes) (endsIn (out .alive) (out .a) (out .b))) (n .before .before .before .lowest .ensures) (n .before .piece-of .ensures)
 
-  without-apart : (outside ≡ 0 → ⊥) → tree (broken t (splitting t taken-out)) ≡ ready (λ d. 0)
+  without-apart : 0 < outside → tree (broken t (splitting t taken-out)) ≡ ready (λ d. 0)
   without-apart some =
       ap tree (sym (without-is t taken-out .0))
-      ∙ broken-apart out (without-sized t taken-out) (without-is t taken-out .1) (without-several t taken-out) piece chosen-piece outside (n .difference .ensures) some
+      ∙ broken-apart out (without-sized t taken-out) (without-is t taken-out .1) (without-several t taken-out) piece chosen-piece outside (n .difference .ensures) some (search needs)
 
 -- ---- the split, from what its branches gave
 
@@ -978,7 +979,7 @@ module _ (t : ℕ) (c : Apart t) where
   apart-worked l =
       let m = apart-met in
       let q = at t m in
-      let none = without-apart t apart-tested (λ none. eqb-false _ 0 (c .before .before .if4 .taken) none) in
+      let none = without-apart t apart-tested (omega (arith, c .before .before .if4 .taken)) in
       subst (λ (u : Tree). Worked u l (m .if3 .row) (suc (depth-at t q)) (c .whole4 .result) (m .if3 .row)) (sym (broken-ready none (row t q) (depth-at t q) (inner t q) (isIt t q)))
       (known-worked (λ d. 0) l (m .if3 .row) (suc (depth-at t q)) (c .whole4 .result) apart-figure (c .whole4 .ensures .1))
 
@@ -1014,7 +1015,7 @@ run-clear-requires : (t : ℕ) → run-lts.Need-clear-requires (claims t) (run-a
 run-clear-requires t c κs =
     let n = c .before .before .before in
     let x = taken-out t n in
-    (without-sized t x .at-length, others-fit (out t n) (without-sized t x) (piece t n) (c .difference2 .result) (search needs) (c .difference2 .ensures))
+    (without-sized t x .at-length, outside-fits (out t n) (without-sized t x) (piece t n) (c .difference2 .result) (c .difference2 .ensures) (search needs))
 
 run-cast-remains : (t : ℕ) → run-lts.Need-cast-remains (claims t) (run-at t) run.Post
 run-cast-remains t c = search needs
@@ -1046,7 +1047,7 @@ module _ (t : ℕ) (c : Rest t) where
   left-of = let n = out t rest-tested in record { alive = c .before .before .before .before .clear .result; at = c .before .before .before .before .clear .last .0; low = n .low; high = n .high; a = n .a; b = n .b; nodes = n .nodes; chosen = n .chosen }
 
   none-outside : outside t rest-tested ≡ 0
-  none-outside = eqb-true _ 0 (c .before .before .before .before .before .before .before .if4 .left)
+  none-outside = omega (arith, c .before .before .before .before .before .before .before .if4 .left)
 
   rest-work : Workable left-of
   rest-work = broken-work (out t rest-tested) (without-sized t rest-out) (without-is t rest-out .1) (without-several t rest-out) (piece t rest-tested) (chosen-piece t rest-tested) (outside t rest-tested) (rest-tested .difference .ensures) none-outside (without-loopless t rest-out)
