@@ -1,11 +1,11 @@
 -- Links that go where a test holds.
-use Prim.Native.Nat.{ℕ, zero, suc, _<_}
+use Prim.Native.Nat.{ℕ, zero, suc, _≤_, _<_, zero-le, suc-le-suc}
 use mathlib.Core.Path.{_≡_, refl, ap, _∙_, subst, sym}
 use mathlib.Core.List.{List, [], _∷_, List·Memᴰ, List·Memᴰ·head, List·Memᴰ·tail, List·Memᴰ·cases-cons}
 use mathlib.Core.Bool.{Bool, true, false}
 use mathlib.Core.Logic.{⊎-elim}
 use mathlib.Core.Option.{Option, some, none, Option·map}
-use native.Mathlib.Nat.{not-suc-le-zero, le-of-suc-le-suc}
+use native.Mathlib.Nat.{not-suc-le-zero, le-of-suc-le-suc, le-suc, le-trans}
 use lib.ListN.{length}
 use Rattle.reliability.specs.declared.Link.{Link}
 use Rattle.reliability.specs.Rule.{firstAt, deleteAt}
@@ -52,3 +52,13 @@ dropped-none p (e ∷ es) = by (p e) refl (dropped-none p es)
     by : (b : Bool) → p e ≡ b → firstAt p (dropping p es) ≡ none → firstAt p (elim b [ true ↦ dropping p es | false ↦ e ∷ dropping p es ]) ≡ none
     by true h k = k
     by false h k = ap (λ (t : Bool). elim t as (λ x. Option ℕ) [ true ↦ some zero | false ↦ Option·map suc (firstAt p (dropping p es)) ]) h ∙ ap (Option·map suc) k
+
+-- no more are left
+pub dropping-few : (p : Link → Bool) (es : List Link) → length (dropping p es) ≤ length es
+unfolding dropping
+dropping-few p [] = zero-le
+dropping-few p (e ∷ es) = go (p e) (dropping-few p es)
+  where
+    go : (b : Bool) → length (dropping p es) ≤ length es → length {A = Link} (elim b as (λ x. List Link) [ true ↦ dropping p es | false ↦ e ∷ dropping p es ]) ≤ suc (length es)
+    go true h = le-trans h (le-suc (length es))
+    go false h = suc-le-suc h
