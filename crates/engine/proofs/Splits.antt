@@ -63,15 +63,15 @@ factor-carries {t} {u} {k} is row p c h = record {
 }
 
 -- with a factor, or with none
-pub factored-worked : {t u : Tree} {k : Direction → ℕ} (c : Bool) → t ≡ cond c (multiplied k u) u → (os : List Open) (l : ℕ) (row : List ℕ) (p : ℕ) (f r : Carried) (after : List ℕ)
+pub factored-worked : (c : Bool) {t : Tree} (u : Tree) (k : Direction → ℕ) → t ≡ cond c (multiplied k u) u → (os : List Open) (l : ℕ) (row : List ℕ) (p : ℕ) (f r : Carried) (after : List ℕ)
     → Worked (resumed u os) l row p f after → r .figure ≡ cond c (times k (f .figure)) (f .figure) → r .aside ≡ f .aside → Worked (resumed t os) l row p r after
-factored-worked true = factor-worked
-factored-worked false is os l row p f r after w g n =
+factored-worked true u k is os l row p f r after w g n = factor-worked is os l row p f r after w g n
+factored-worked false u k is os l row p f r after w g n =
     subst (λ (v : Tree). Worked (resumed v os) l row p r after) (sym is) (record { figure = g ∙ w .figure; count = n ∙ w .count; written = w .written })
 
-pub factored-carries : {t u : Tree} {k : Direction → ℕ} (c : Bool) → t ≡ cond c (multiplied k u) u → (row : List ℕ) (p n : ℕ) → Carries t row p n → Carries u row p n
-factored-carries true = factor-carries
-factored-carries false is row p n h = subst (λ (v : Tree). Carries v row p n) is h
+pub factored-carries : (c : Bool) {t : Tree} (u : Tree) (k : Direction → ℕ) → t ≡ cond c (multiplied k u) u → (row : List ℕ) (p n : ℕ) → Carries t row p n → Carries u row p n
+factored-carries true u k is row p n h = factor-carries is row p n h
+factored-carries false u k is row p n h = subst (λ (v : Tree). Carries v row p n) is h
 
 -- ---- a split
 

@@ -34,7 +34,7 @@ use Rattle.steps.specs.Simple.{stepOf}
 use Rattle.network.proofs.Made.{sized-of, fewer, unpaired-work, unpaired-same, unpaired-less}
 use Rattle.steps.proofs.Arms.{Within, moved-fits, link-within, one-tree, link-is, end-below, end-tree, last-end, end-work, series-left, series-below, series-tree, works, at-link, split-work, sound-left, sound-below, broken-below, split-tree, several, broken-is, broken-sized, broken-loopless, broken-pairless}
 use Rattle.simple.proofs.Keeping.{piece-asked, outside-fits}
-use Rattle.simple.proofs.Broken.{broken-apart, broken-work, broken-same, broken-few}
+use Rattle.simple.proofs.Broken.{broken-apart, broken-work, broken-same, broken-few as links-kept}
 use Rattle.sittings.specs.declared.Carried.{Carried}
 use Rattle.sittings.specs.Sittings.{Open, aside, resumed}
 use Rattle.sittings.specs.Entries.{opensIn, ownEntry, ownCount}
@@ -303,7 +303,7 @@ run-returns t c =
     let neighbour = i .before .across .ensures ∙ ap (across v) link in
     let one = last-end n (workable t o) _ _ (end-fits t k) (i .before .across .result) (i .into .result) neighbour (i .into .ensures) (sym (d .before .before .before .at-most-one .ensures) ∙ d .before .before .if1 .taken) in
     let f : Carried = record { figure = bounded (λ d. S) 0 true; aside = 0 } in
-    factored-worked (listing v (chosenOf n)) (end-tree n (workable t o) _ _ (end-fits t k)) (openOf t o) (a .limit) (rowOf t o) (a .k) f (c .whole2 .result) (rowOf t o)
+    factored-worked (listing v (chosenOf n)) _ _ (end-tree n (workable t o) _ _ (end-fits t k)) (openOf t o) (a .limit) (rowOf t o) (a .k) f (c .whole2 .result) (rowOf t o)
     (ready-worked one (openOf t o) (a .limit) (rowOf t o) (a .k) f refl refl)
     (c .whole2 .ensures .0 ∙ d .end-of .ensures ∙ (λ j. cond (is-one j) (times (λ d. value d (link j)) (value-one j)) (value-one j)))
     (c .whole2 .ensures .1)
@@ -353,7 +353,7 @@ run-run-requires t c κs =
       less t o _ few,
       (
         (end-work n (workable t o) _ _ (end-fits t k) (l .end .result) (end-is t l) (sized-of (l .end .lifetimes) (l .end .result) (l .end .ok)) (l .end .ensures .1), omega (arith, o .before .pre .1 .0 .1)),
-        (omega (arith, few, room t o), factored-carries (end-multiplies t l) (end-worked t l) (rowOf t o) (a .k) (a .left) (carries t o)),
+        (omega (arith, few, room t o), factored-carries (end-multiplies t l) _ _ (end-worked t l) (rowOf t o) (a .k) (a .left) (carries t o)),
       ),
     )
 
@@ -370,7 +370,7 @@ run-end-of-requires-2 t c κs =
     let o = end-told t (end-of t l) in
     let a = o .before .args in
     let e = end-within t (l .before .before .before .before .before .before .before) in
-    let w = rest-within t o (l .end .result) (l .end .ensures .1) (c .run .result) _ _ (factored-carries (end-multiplies t l) (end-worked t l) (rowOf t o) (a .k) (a .left) (carries t o)) (c .run .ensures) in
+    let w = rest-within t o (l .end .result) (l .end .ensures .1) (c .run .result) _ _ (factored-carries (end-multiplies t l) _ _ (end-worked t l) (rowOf t o) (a .k) (a .left) (carries t o)) (c .run .ensures) in
     (omega (arith, e), omega (arith, e), w .0, w .1)
 
 run-returns-5 : (t : ℕ) → run-lts.Need-returns-5 (claims t) (run-at t) run.Post
@@ -381,7 +381,7 @@ run-returns-5 t c =
     let link = end-link t (l .before .before .before .before .before .before .before) in
     let multiplies = end-chosen t (l .before .before .before .before .before .before) in
     let f = c .before .run .result .figure in
-    factored-worked (end-multiplies t l) (end-worked t l) (openOf t o) (a .limit) (rowOf t o) (a .k) (c .before .run .result) _ _ (c .before .run .ensures)
+    factored-worked (end-multiplies t l) _ _ (end-worked t l) (openOf t o) (a .limit) (rowOf t o) (a .k) (c .before .run .result) _ _ (c .before .run .ensures)
     (c .end-of2 .ensures ∙ (λ j. cond (multiplies j) (times (λ d. value d (link j)) f) f))
     refl
 
@@ -476,7 +476,7 @@ run-run-requires-2 t c κs =
       less t o _ few,
       (
         (unpaired-work (series-plainly t l) r (q .result) (series-is t l) (q .ensures .0) (sized-of (q .lifetimes) (q .result) (q .ok)) (q .ensures .1), omega (arith, o .before .pre .1 .0 .1)),
-        (omega (arith, few, room t o), factored-carries (series-multiplies t l) (series-worked t j) (rowOf t o) (a .k) (a .left) (carries t o)),
+        (omega (arith, few, room t o), factored-carries (series-multiplies t l) _ _ (series-worked t j) (rowOf t o) (a .k) (a .left) (carries t o)),
       ),
     )
 
@@ -502,7 +502,7 @@ run-series-of-requires t c κs =
     let u = series-fits t k .placed in
     let e = link-within (net t o) (w .holds) (w .sized) _ _ (u .1) (series-first t l) in
     let h = link-within (net t o) (w .holds) (w .sized) _ _ (u .2) (series-second t l) in
-    let f = rest-within t o (j .parallel .result) (j .parallel .ensures .1) (c .run2 .result) _ _ (factored-carries (series-multiplies t l) (series-worked t j) (rowOf t o) (a .k) (a .left) (carries t o)) (c .run2 .ensures) in
+    let f = rest-within t o (j .parallel .result) (j .parallel .ensures .1) (c .run2 .result) _ _ (factored-carries (series-multiplies t l) _ _ (series-worked t j) (rowOf t o) (a .k) (a .left) (carries t o)) (c .run2 .ensures) in
     (omega (arith, e, h), omega (arith, e, h), omega (arith, e, h), omega (arith, e, h), f .0, f .1)
 
 run-returns-6 : (t : ℕ) → run-lts.Need-returns-6 (claims t) (run-at t) run.Post
@@ -514,7 +514,7 @@ run-returns-6 t c =
     let h = l .before .before .has2 in
     let multiplies = h .ensures ∙ sym (listed-has (net t o .chosen) _) in
     let f = c .before .run2 .result .figure in
-    factored-worked (series-multiplies t l) (series-worked t j) (openOf t o) (a .limit) (rowOf t o) (a .k) (c .before .run2 .result) _ _ (c .before .run2 .ensures)
+    factored-worked (series-multiplies t l) _ _ (series-worked t j) (openOf t o) (a .limit) (rowOf t o) (a .k) (c .before .run2 .result) _ _ (c .before .run2 .ensures)
     (c .series-of .ensures ∙ (λ i. cond (multiplies i) (times (λ d. factor d (value d (series-first t l i)) (value d (series-second t l i))) f) f))
     refl
 
@@ -1054,7 +1054,7 @@ module _ (t : ℕ) (c : Rest t) where
       (c .before .before .before .before .before .difference2 .result) (c .before .before .before .before .clear .result) (c .before .before .before .before .clear .last .0) (c .before .before .before .before .before .difference2 .ensures) (c .before .before .before .before .clear .ensures .0) (c .before .before .before .before .clear .ensures .1) (without-pairless t rest-out)
 
   rest-few : length (linksOf left-of) ≤ length (linksOf (out t rest-tested))
-  rest-few = broken-few (out t rest-tested) (without-sized t rest-out) (without-is t rest-out .1) (without-several t rest-out) (piece t rest-tested) (chosen-piece t rest-tested) (outside t rest-tested) (rest-tested .difference .ensures) none-outside (without-loopless t rest-out)
+  rest-few = links-kept (out t rest-tested) (without-sized t rest-out) (without-is t rest-out .1) (without-several t rest-out) (piece t rest-tested) (chosen-piece t rest-tested) (outside t rest-tested) (rest-tested .difference .ensures) none-outside (without-loopless t rest-out)
       (c .before .before .before .before .before .difference2 .result) (c .before .before .before .before .clear .result) (c .before .before .before .before .clear .last .0) (c .before .before .before .before .before .difference2 .ensures) (c .before .before .before .before .clear .ensures .0) (c .before .before .before .before .clear .ensures .1)
 
   -- the row and the open splits that it is handed

@@ -20,8 +20,9 @@ use Rattle.search.proofs.Marks.{length-places}
 use Rattle.network.specs.declared.Network.{Network}
 use Rattle.network.specs.Places.{networkOf, terminalsOf, linksOf, chosenOf, Invariant, Sized}
 use Rattle.network.proofs.Kept.{chosen-of}
-use Rattle.simple.specs.Workable.{Several, Workable}
-use Rattle.simple.proofs.Made.{sized-of, unpaired-work, unpaired-same, unpaired-few}
+use Rattle.network.specs.Workable.{Workable}
+use Rattle.simple.specs.Begins.{Several}
+use Rattle.network.proofs.Made.{sized-of, unpaired-work, unpaired-same, unpaired-few}
 use Rattle.simple.proofs.Keeping.{piece-whole, none-outside, some-outside}
 use Rattle.simple.proofs.start.Statement.{statement}
 use Rattle.simple.proofs.start.Tie as tie
