@@ -4,9 +4,9 @@ use steps::Next;
 ghost use mathlib.Core.Path.{_≡_};
 ghost use Prim.Native.Nat.{_+_, _≤_};
 ghost use lib.ListN.{length};
-ghost use Rattle.reliability.specs.Rule.{tree};
-ghost use Rattle.network.specs.Places.{networkOf, Invariant, assembled};
-ghost use Rattle.steps.specs.Simple.{Workable};
+ghost use Rattle.reliability.specs.Terminals.{tree};
+ghost use Rattle.network.specs.Places.{terminalsOf, Invariant, assembled};
+ghost use Rattle.network.specs.Workable.{Workable};
 ghost use Rattle.sittings.specs.Sittings.{traced};
 ghost use Rattle.sittings.specs.Entries.{opensIn};
 
@@ -14,6 +14,7 @@ ghost use Rattle.sittings.specs.Entries.{opensIn};
 fn follow<'r>(
     alive: u64,
     nodes: u32,
+    chosen: u32,
     at: &'r [u64; 32],
     a: &'r [u8; 64],
     b: &'r [u8; 64],
@@ -23,19 +24,20 @@ fn follow<'r>(
     k: usize,
     left: usize,
 ) -> bool
-    requires { ⌜ Workable (assembled alive nodes (now at) (now a) (now b) (now low) (now high)) × (k + left ≤ 64) × (length (now row) ≡ 192) ⌝ }
-    ensures { λ r. ⌜ r ≡ traced (tree (networkOf (assembled alive nodes (now (at .entry)) (now (a .entry)) (now (b .entry)) (now (low .entry)) (now (high .entry))))) (opensIn (now (row .entry)) k left) ⌝ }
+    requires { ⌜ Workable (assembled alive nodes chosen (now at) (now a) (now b) (now low) (now high)) × (k + left ≤ 64) × (length (now row) ≡ 192) ⌝ }
+    ensures { λ r. ⌜ r ≡ traced (tree (terminalsOf (assembled alive nodes chosen (now (at .entry)) (now (a .entry)) (now (b .entry)) (now (low .entry)) (now (high .entry))))) (opensIn (now (row .entry)) k left) ⌝ }
 {
     if left == 0 {
         return true;
     }
-    match steps::step(alive, nodes, at, a, b, low, high) {
+    match steps::step(alive, nodes, chosen, at, a, b, low, high) {
         Next::OneNode => false,
         Next::End(v, i) => {
-            let r = assembly::assembled(alive, nodes, at, a, b, low, high).end(v, i);
+            let r = assembly::assembled(alive, nodes, chosen, at, a, b, low, high).end(v, i);
             follow(
                 r.alive,
                 r.nodes,
+                r.chosen,
                 &r.at,
                 &r.a,
                 &r.b,
@@ -47,12 +49,13 @@ fn follow<'r>(
             )
         }
         Next::Series(v, i, j) => {
-            let r = assembly::assembled(alive, nodes, at, a, b, low, high)
+            let r = assembly::assembled(alive, nodes, chosen, at, a, b, low, high)
                 .series(v, i, j)
                 .parallel();
             follow(
                 r.alive,
                 r.nodes,
+                r.chosen,
                 &r.at,
                 &r.a,
                 &r.b,
@@ -69,13 +72,16 @@ fn follow<'r>(
                 return false;
             }
             if rows::is_known(row, k, left) {
-                let d = assembly::assembled(alive, nodes, at, a, b, low, high).deleted(i);
-                if 1 < steps::pieces(d) {
+                let broken = assembly::assembled(alive, nodes, chosen, at, a, b, low, high).deleted(i);
+                let begun = simple::start(broken);
+                if begun.settled {
                     return left == 1;
                 }
+                let d = begun.rest;
                 return follow(
                     d.alive,
                     d.nodes,
+                    d.chosen,
                     &d.at,
                     &d.a,
                     &d.b,
@@ -86,12 +92,13 @@ fn follow<'r>(
                     left - 1,
                 );
             }
-            let s = assembly::assembled(alive, nodes, at, a, b, low, high)
+            let s = assembly::assembled(alive, nodes, chosen, at, a, b, low, high)
                 .contracted(i)
                 .parallel();
             follow(
                 s.alive,
                 s.nodes,
+                s.chosen,
                 &s.at,
                 &s.a,
                 &s.b,
@@ -105,19 +112,20 @@ fn follow<'r>(
     }
 }
 
-// Whether the first open splits of the row, as many as are left, are splits of a network: loops go first, then pairs.
+// Whether the first open splits of the row, as many as are left, are splits of a network, once it is made simple.
 pub fn traces(net: Network, row: &[u32; 192], left: usize) -> bool
     requires { ⌜ Invariant net × (left ≤ 64) × (length (now row) ≡ 192) ⌝ }
-    ensures { λ r. ⌜ r ≡ traced (tree (networkOf net)) (opensIn (now (row .entry)) 0 left) ⌝ }
+    ensures { λ r. ⌜ r ≡ traced (tree (terminalsOf net)) (opensIn (now (row .entry)) 0 left) ⌝ }
 {
-    let n = steps::without_loops(net);
-    if 1 < steps::pieces(n) {
+    let begun = simple::start(net);
+    if begun.settled {
         return left == 0;
     }
-    let r = n.parallel();
+    let r = begun.rest;
     follow(
         r.alive,
         r.nodes,
+        r.chosen,
         &r.at,
         &r.a,
         &r.b,

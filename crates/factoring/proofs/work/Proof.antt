@@ -1,7 +1,8 @@
 use mathlib.Core.Path.{refl, ap, _∙_}
 use native.Mathlib.Omega.{arith}
-use Rattle.reliability.specs.Rule.{Tree, tree, run}
-use Rattle.network.specs.Places.{networkOf}
+use Rattle.reliability.specs.Rule.{Tree, run}
+use Rattle.reliability.specs.Terminals.{tree}
+use Rattle.network.specs.Places.{terminalsOf}
 use Rattle.sittings.specs.Sittings.{traced}
 use Rattle.sittings.specs.Entries.{opensIn}
 use Rattle.sittings.proofs.Sittings.{resumed-none}
@@ -12,7 +13,7 @@ returns : tie.Need-returns
 unfolding opensIn
 returns c =
     let a = c .before .before .before .args in
-    c .before .carry .ensures .figure ∙ ap (λ (t : Tree). run t (a .limit)) (resumed-none (tree (networkOf (a .net))))
+    c .before .carry .ensures .figure ∙ ap (λ (t : Tree). run t (a .limit)) (resumed-none (tree (terminalsOf (a .net))))
 
 carry-requires : tie.Need-carry-requires
 unfolding opensIn traced
