@@ -1,25 +1,20 @@
--- Whether the open splits of a row are splits of a tree, by what the tree is; and what is left of a network without loops or without a link.
-use Prim.Native.Nat.{ℕ, zero, suc, _+_, _-_, _*_, _≤_, _<_}
-use mathlib.Core.Path.{_≡_, refl, sym, ap, ap₂, _∙_, subst}
+-- Whether the open splits of a row are splits of a tree, by what the tree is.
+use Prim.Native.Nat.{ℕ, zero, suc, _+_, _-_, _*_, _<_}
+use mathlib.Core.Path.{_≡_, refl, sym, ap, ap₂, _∙_}
 use mathlib.Core.List.{List, [], _∷_}
 use mathlib.Core.Bool.{Bool, true, false, cond, not, _&&_, _||_, or-true as or-right}
-use mathlib.Core.Option.{none}
 use native.Mathlib.Numerals.{add-one}
 use native.Mathlib.Omega.{arith}
 use lib.Dec.{eqb, leb}
 use lib.ListN.{getD}
-use borrow.Author.Tests.{eq-eqb, ne-eqb, le-leb}
+use borrow.Author.Tests.{eq-eqb, ne-eqb}
 use Rattle.rounding.specs.declared.Direction.{Direction}
 use Rattle.reliability.specs.declared.Link.{Link}
-use Rattle.reliability.specs.Networks.{piecesOf}
-use Rattle.reliability.specs.Rule.{deleted, Tree, ready, multiplied, fork, taken}
-use Rattle.reliability.specs.Simple.{Simple}
+use Rattle.reliability.specs.Rule.{Tree, ready, multiplied, fork, taken}
 use Rattle.bits.specs.Members.{members}
 use Rattle.reliability.proofs.Lists.{by-eqb}
-use Rattle.reliability.proofs.Simple.{connected-pieces-few, deleted-simple}
-use Rattle.network.specs.declared.Network.{Network}
-use Rattle.network.specs.Places.{rank, networkOf, indexOf, Invariant, Sized}
-use Rattle.steps.specs.Simple.{Workable, splitOn}
+use Rattle.network.specs.Places.{rank}
+use Rattle.steps.specs.Simple.{splitOn}
 use Rattle.steps.proofs.Places.{rank-lowest, split-first, split-placed}
 use Rattle.sittings.specs.Sittings.{Open, traced}
 use Rattle.sittings.specs.Entries.{opensIn}
@@ -27,10 +22,15 @@ use Rattle.sittings.proofs.Opened.{openBy, fork-open, taken-open}
 
 -- ---- open splits
 
-pub traced-multiplied : (v : Direction → ℕ) (t : Tree) (os : List Open) → traced t os ≡ traced (multiplied v t) os
+traced-multiplied : (v : Direction → ℕ) (t : Tree) (os : List Open) → traced t os ≡ traced (multiplied v t) os
 unfolding traced
 traced-multiplied v t [] = refl
 traced-multiplied v t (o ∷ os) = refl
+
+-- with a factor or without
+pub traced-factored : (c : Bool) (v : Direction → ℕ) (t : Tree) (os : List Open) → traced t os ≡ traced (cond c (multiplied v t) t) os
+traced-factored true v t os = traced-multiplied v t os
+traced-factored false v t os = refl
 
 module _ (row : List ℕ) (k : ℕ) where
   pub traced-none : (t : Tree) (left : ℕ) → left ≡ 0 → true ≡ traced t (opensIn row k left)
@@ -106,14 +106,3 @@ module _ (alive c : ℕ) (row : List ℕ) (k left : ℕ) (some : 0 < left) where
 -- one is left: none behind it
 pub one-left : (left : ℕ) → (left ≡ 0 → ⊥) → eqb left 1 ≡ eqb (left - 1) 0
 one-left left h = by-eqb (λ b. b ≡ eqb (left - 1) 0) left 1 (λ e. sym (eq-eqb (left - 1) 0 (omega arith))) (λ more. sym (ne-eqb (left - 1) 0 (λ e. more (omega arith))))
-
--- ---- networks
-
--- r is a simple network without a link, in one piece at most
-pub deleted-work : (n r : Network) → Workable n → (i : ℕ) → networkOf r ≡ deleted (indexOf n i) (networkOf n) → Sized r → Invariant r → piecesOf (networkOf r) ≤ 1 → Workable r
-deleted-work n r work i is sized holds few = record {
-  sized = sized;
-  holds = holds;
-  simple = subst Simple (sym is) (deleted-simple (networkOf n) (work .simple) (indexOf n i)
-      (connected-pieces-few (deleted (indexOf n i) (networkOf n)) ∙ ap (λ g. leb (piecesOf g) 1) (sym is) ∙ le-leb (piecesOf (networkOf r)) 1 few));
-}

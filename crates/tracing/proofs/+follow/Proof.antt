@@ -7,20 +7,23 @@ use lib.Dec.{eqb}
 use lib.ListN.{length}
 use borrow.Author.Tests.{ne-eqb}
 use Rattle.bits.specs.Members.{members}
-use Rattle.reliability.specs.Networks.{Network as Graph}
 use Rattle.reliability.specs.declared.Step.the-variants.{End, Series, Split}
-use Rattle.reliability.specs.Rule.{deleted, removed, joined, inSeries, contracted, fork, tree, Tree}
+use Rattle.rounding.specs.declared.Direction.{Direction}
+use Rattle.reliability.specs.Rule.{multiplied, fork, Tree}
+use Rattle.reliability.specs.Terminals.{Terminals, has as listing, endLeft, seriesLeft, soundLeft, brokenLeft, tree}
 use Rattle.reliability.specs.Simple.{Plain}
 use Rattle.network.specs.declared.Network.{Network}
-use Rattle.network.specs.Places.{rank, linksOf, networkOf, indexOf, linkOf, Invariant, Used, ranked, Fitting, assembled}
+use Rattle.network.specs.Places.{rank, linksOf, terminalsOf, chosenOf, indexOf, linkOf, Invariant, Used, ranked, Fitting, assembled}
 use Rattle.steps.specs.declared.Next.{Next}
 use Rattle.steps.specs.declared.Next.the-variants.{OneNode as One, End as Ended, Series as InSeries, Split as Splitting}
-use Rattle.steps.specs.Simple.{Workable, stepOf, splitOn}
-use Rattle.steps.proofs.Arms.{sized-of, moved-fits, pieces-apart, fewer, unpaired-work, unpaired-same, unpaired-less, one-tree, end-below, end-work, end-tree, series-left, series-below, series-tree, works, at-link, split-work, sound-left, sound-below, broken-below, split-tree}
+use Rattle.network.specs.Workable.{Workable}
+use Rattle.steps.specs.Simple.{stepOf, splitOn}
+use Rattle.network.proofs.Made.{sized-of, fewer, unpaired-work, unpaired-same, unpaired-less}
+use Rattle.steps.proofs.Arms.{moved-fits, one-tree, end-below, end-work, end-tree, series-left, series-below, series-tree, works, at-link, split-work, sound-left, sound-below, broken-below, split-tree}
 use Rattle.steps.proofs.Places.{split-used}
 use Rattle.sittings.specs.Sittings.{Open, traced}
 use Rattle.sittings.specs.Entries.{opensIn}
-use Rattle.tracing.proofs.Laws.{traced-multiplied, traced-none, traced-ready, known-by, traced-elsewhere, traced-here, on-link, off-link, one-left, deleted-work}
+use Rattle.tracing.proofs.Laws.{traced-factored, traced-none, traced-ready, known-by, traced-elsewhere, traced-here, on-link, off-link, one-left}
 use borrow.Author.Needs.{needs}
 use borrow.Fn.Kinds.{In}
 use borrow.Fn.PlainCycle.{Measures, is, falls, and}
@@ -34,7 +37,7 @@ use Rattle.network.proofs.Network.parallel.Reads as parallel-reads
 use Rattle.network.proofs.Network.series.Reads as series-reads
 use Rattle.assembly.proofs.assembled.Reads as assembled-reads
 use Rattle.rows.proofs.is_known.Reads as is-known-reads
-use Rattle.steps.proofs.pieces.Reads as pieces-reads
+use Rattle.simple.proofs.start.Reads as start-reads
 use Rattle.steps.proofs.place.Reads as place-reads
 use Rattle.steps.proofs.split_on.Reads as split-on-reads
 use Rattle.steps.proofs.step.Reads as step-reads
@@ -42,7 +45,7 @@ use Rattle.tracing.proofs.+follow.{statement}
 use Rattle.tracing.proofs.+follow.Tie.{close}
 
 abbrev μ-follow : Measures 1 follow-kinds.ps ℕ
-μ-follow κs a = length (linksOf (assembled (a .0) (a .1 .0) (a .1 .1 .0 .now) (a .1 .1 .1 .0 .now) (a .1 .1 .1 .1 .0 .now) (a .1 .1 .1 .1 .1 .0 .now) (a .1 .1 .1 .1 .1 .1 .0 .now)))
+μ-follow κs a = length (linksOf (assembled (a .0) (a .1 .0) (a .1 .1 .0) (a .1 .1 .1 .0 .now) (a .1 .1 .1 .1 .0 .now) (a .1 .1 .1 .1 .1 .0 .now) (a .1 .1 .1 .1 .1 .1 .0 .now) (a .1 .1 .1 .1 .1 .1 .1 .0 .now)))
 
 abbrev follow-at : ℕ → In 1 follow-kinds.ps
 follow-at t = and 1 follow-kinds.ps (is 1 follow-kinds.ps μ-follow t) follow.Pre
@@ -72,8 +75,8 @@ claims t = (
   is-known-reads.Learnt,
   deleted-reads.Asked,
   deleted-reads.Learnt,
-  pieces-reads.Asked,
-  pieces-reads.Learnt,
+  start-reads.Asked,
+  start-reads.Learnt,
   contracted-reads.Asked,
   contracted-reads.Learnt,
 )
@@ -89,10 +92,10 @@ abbrev Known : ℕ → Type 0
 Known t = follow-lts.After-step (claims t) (follow-at t) follow.Post
 
 abbrev net : (t : ℕ) → Known t → Network
-net t o = let s = o .before .before .args in assembled (s .alive) (s .nodes) (s .at .now) (s .a .now) (s .b .now) (s .low .now) (s .high .now)
+net t o = let s = o .before .before .args in assembled (s .alive) (s .nodes) (s .chosen) (s .at .now) (s .a .now) (s .b .now) (s .low .now) (s .high .now)
 
-abbrev graph : (t : ℕ) → Known t → Graph
-graph t o = networkOf (net t o)
+abbrev graph : (t : ℕ) → Known t → Terminals
+graph t o = terminalsOf (net t o)
 
 abbrev row : (t : ℕ) → Known t → List ℕ
 row t o = o .before .before .args .row .now
@@ -124,6 +127,10 @@ put-together t o e = subst Invariant (sym e) (workable t o .holds)
 -- the tree is another
 same-tree : (t : ℕ) (o : Known t) (u : Tree) {r : Bool} → tree (graph t o) ≡ u → r ≡ traced u (opens t o) → r ≡ traced (tree (graph t o)) (opens t o)
 same-tree t o u e h = h ∙ ap (λ (w : Tree). traced w (opens t o)) (sym e)
+
+-- that of a rest, with a factor or without
+rest-tree : (t : ℕ) (o : Known t) (c : Bool) (v : Direction → ℕ) (u : Tree) {r : Bool} → tree (graph t o) ≡ cond c (multiplied v u) u → r ≡ traced u (opens t o) → r ≡ traced (tree (graph t o)) (opens t o)
+rest-tree t o c v u e h = same-tree t o _ e (h ∙ traced-factored c v u (opens t o))
 
 -- ---- one node
 
@@ -163,10 +170,10 @@ End-left t = follow-lts.After-end (claims t) (follow-at t) follow.Post
 abbrev end-step : (t : ℕ) → End-left t → Known t
 end-step t l = l .before .before .before .before .before
 
-end-is : (t : ℕ) (l : End-left t) → let n = net t (end-step t l) in let p = l .before .before .before .v .given .0 in networkOf (l .end .result) ≡ removed (p .0) (deleted (indexOf n (p .1 .0)) (networkOf n))
+end-is : (t : ℕ) (l : End-left t) → let n = net t (end-step t l) in let p = l .before .before .before .v .given .0 in terminalsOf (l .end .result) ≡ endLeft (p .0) (indexOf n (p .1 .0)) (terminalsOf n)
 end-is t l =
     let p = l .before .before .before .v .given .0 in
-    l .end .ensures .0 ∙ ap (λ (n : Network). removed (p .0) (deleted (indexOf n (p .1 .0)) (networkOf n))) (l .before .assembled .ensures)
+    l .end .ensures .0 ∙ ap (λ (n : Network). endLeft (p .0) (indexOf n (p .1 .0)) (terminalsOf n)) (l .before .assembled .ensures)
 
 follow-requires : (t : ℕ) → follow-lts.Need-follow-requires (claims t) (follow-at t) follow.Post
 follow-requires t c κs =
@@ -175,7 +182,7 @@ follow-requires t c κs =
     let n = net t o in
     let f = end-fits t (l .before .before) in
     let r = l .end .result in (
-      less t o _ (fewer (networkOf n) r (end-is t l) (end-below n (workable t o) _ _ f)),
+      less t o _ (fewer (terminalsOf n) r (end-is t l) (end-below n (workable t o) _ _ f)),
       (end-work n (workable t o) _ _ f r (end-is t l) (sized-of (l .end .lifetimes) r (l .end .ok)) (l .end .ensures .1), o .before .before .pre .1 .1, o .before .before .pre .1 .2),
     )
 
@@ -183,8 +190,8 @@ returns-6 : (t : ℕ) → follow-lts.Need-returns-6 (claims t) (follow-at t) fol
 returns-6 t c =
     let l = c .before .before .before .before .before .before .before in
     let o = end-step t l in
-    same-tree t o _ (end-tree (net t o) (workable t o) _ _ (end-fits t (l .before .before)))
-    (c .follow .ensures ∙ ap (λ (h : Graph). traced (tree h) (opens t o)) (end-is t l) ∙ traced-multiplied _ _ (opens t o))
+    rest-tree t o (listing (l .before .before .before .v .given .0 .0) (chosenOf (net t o))) _ _ (end-tree (net t o) (workable t o) _ _ (end-fits t (l .before .before)))
+    (c .follow .ensures ∙ ap (λ (h : Terminals). traced (tree h) (opens t o)) (end-is t l))
 
 -- ---- two links in series
 
@@ -213,18 +220,18 @@ Series-left t = follow-lts.After-series (claims t) (follow-at t) follow.Post
 abbrev series-step : (t : ℕ) → Series-left t → Known t
 series-step t l = l .before .before .before .before .before
 
-abbrev series : (t : ℕ) → Series-left t → Network → Graph
+abbrev series : (t : ℕ) → Series-left t → Network → Terminals
 series t l n = let p = l .before .before .before .v2 .given .0 in
-    removed (p .0) (joined (indexOf n (p .1 .0)) (indexOf n (p .1 .1 .0)) (inSeries (p .0) (linkOf n (p .1 .0)) (linkOf n (p .1 .1 .0))) (networkOf n))
+    seriesLeft (p .0) (indexOf n (p .1 .0)) (indexOf n (p .1 .1 .0)) (terminalsOf n)
 
-series-is : (t : ℕ) (l : Series-left t) → networkOf (l .series .result) ≡ series t l (net t (series-step t l))
+series-is : (t : ℕ) (l : Series-left t) → terminalsOf (l .series .result) ≡ series t l (net t (series-step t l))
 series-is t l = l .series .ensures .0 ∙ ap (series t l) (l .before .assembled2 .ensures)
 
 series-plainly : (t : ℕ) (l : Series-left t) → Plain (series t l (net t (series-step t l)))
 series-plainly t l = let o = series-step t l in series-left (net t o) (workable t o) _ _ _ (series-fits t (l .before .before))
 
 parallel-requires : (t : ℕ) → follow-lts.Need-parallel-requires (claims t) (follow-at t) follow.Post
-parallel-requires t c κs = (c .series .ensures .1, subst Plain (sym (series-is t c)) (series-plainly t c))
+parallel-requires t c κs = (c .series .ensures .1, subst Plain (sym (series-is t c)) (series-plainly t c) .loopless)
 
 follow-requires-2 : (t : ℕ) → follow-lts.Need-follow-requires-2 (claims t) (follow-at t) follow.Post
 follow-requires-2 t c κs =
@@ -234,7 +241,7 @@ follow-requires-2 t c κs =
     let n = net t o in
     let r = l .series .result in
     let b = series-below n (workable t o) _ _ _ (series-fits t (l .before .before)) in (
-      less t o _ (unpaired-less (series-plainly t l) r (q .result) (series-is t l) (q .ensures .0) (networkOf n) b),
+      less t o _ (unpaired-less (series-plainly t l) r (q .result) (series-is t l) (q .ensures .0) (terminalsOf n) b),
       (unpaired-work (series-plainly t l) r (q .result) (series-is t l) (q .ensures .0) (sized-of (q .lifetimes) (q .result) (q .ok)) (q .ensures .1), o .before .before .pre .1 .1, o .before .before .pre .1 .2),
     )
 
@@ -243,10 +250,8 @@ returns-7 t c =
     let q = c .before .before .before .before .before .before .before .parallel in
     let l = c .before .before .before .before .before .before .before .before in
     let o = series-step t l in
-    same-tree t o _ (series-tree (net t o) (workable t o) _ _ _ (series-fits t (l .before .before)))
-    (c .follow2 .ensures
-    ∙ ap (λ (w : Tree). traced w (opens t o)) (sym (unpaired-same (series-plainly t l) (l .series .result) (q .result) (series-is t l) (q .ensures .0)))
-    ∙ traced-multiplied _ _ (opens t o))
+    rest-tree t o (listing (l .before .before .before .v2 .given .0 .0) (chosenOf (net t o))) _ _ (series-tree (net t o) (workable t o) _ _ _ (series-fits t (l .before .before)))
+    (c .follow2 .ensures ∙ ap (λ (w : Tree). traced w (opens t o)) (sym (unpaired-same (series-plainly t l) (l .series .result) (q .result) (series-is t l) (q .ensures .0))))
 
 -- ---- a split
 
@@ -331,11 +336,11 @@ told-at t p = told t (split-at t p)
 abbrev behind : (t : ℕ) → Place-known t → List Open
 behind t p = let o = told-at t p in opensIn (row t o) (place t o + 1) (left t o - 1)
 
-abbrev broken : (t : ℕ) → Split-known t → Network → Graph
-broken t k n = deleted (indexOf n (link t k)) (networkOf n)
+abbrev broken : (t : ℕ) → Split-known t → Network → Terminals
+broken t k n = brokenLeft (indexOf n (link t k)) (terminalsOf n)
 
-abbrev sound : (t : ℕ) → Split-known t → Network → Graph
-sound t k n = contracted (linkOf n (link t k)) (broken t k n)
+abbrev sound : (t : ℕ) → Split-known t → Network → Terminals
+sound t k n = soundLeft (indexOf n (link t k)) (terminalsOf n)
 
 split-traced : (t : ℕ) (p : Place-known t) (known : Bool) {r : Bool} → p .is-known .result ≡ known
     → r ≡ traced (cond known (tree (broken t (split-at t p) (net t (told-at t p)))) (tree (sound t (split-at t p) (net t (told-at t p))))) (behind t p)
@@ -365,52 +370,46 @@ Deleted t = follow-lts.After-deleted (claims t) (follow-at t) follow.Post
 abbrev known-at : (t : ℕ) → Deleted t → Place-known t
 known-at t d = d .before .before .before
 
-broken-is : (t : ℕ) (d : Deleted t) → networkOf (d .deleted .result) ≡ broken t (split-at t (known-at t d)) (net t (told-at t (known-at t d)))
+broken-is : (t : ℕ) (d : Deleted t) → terminalsOf (d .deleted .result) ≡ broken t (split-at t (known-at t d)) (net t (told-at t (known-at t d)))
 broken-is t d = d .deleted .ensures .0 ∙ ap (broken t (split-at t (known-at t d))) (d .before .assembled3 .ensures)
 
-broken-traced : (t : ℕ) (d : Deleted t) {r : Bool} → r ≡ traced (tree (networkOf (d .deleted .result))) (behind t (known-at t d))
+broken-traced : (t : ℕ) (d : Deleted t) {r : Bool} → r ≡ traced (tree (terminalsOf (d .deleted .result))) (behind t (known-at t d))
     → r ≡ traced (tree (graph t (told-at t (known-at t d)))) (opens t (told-at t (known-at t d)))
-broken-traced t d h = split-traced t (known-at t d) true (d .before .before .if3 .taken) (h ∙ ap (λ (g : Graph). traced (tree g) (behind t (known-at t d))) (broken-is t d))
+broken-traced t d h = split-traced t (known-at t d) true (d .before .before .if3 .taken) (h ∙ ap (λ (g : Terminals). traced (tree g) (behind t (known-at t d))) (broken-is t d))
 
-pieces-requires : (t : ℕ) → follow-lts.Need-pieces-requires (claims t) (follow-at t) follow.Post
-pieces-requires t c κs = c .deleted .ensures .1
+start-requires : (t : ℕ) → follow-lts.Need-start-requires (claims t) (follow-at t) follow.Post
+start-requires t c κs = c .deleted .ensures .1
 
 returns-3 : (t : ℕ) → follow-lts.Need-returns-3 (claims t) (follow-at t) follow.Post
 returns-3 t c =
     let d = c .before .before in
     let o = told-at t (known-at t d) in
-    let apart = pieces-apart (d .deleted .result) (d .deleted .ensures .1) (omega (arith, c .before .pieces .ensures, c .if4 .taken)) in
     broken-traced t d
-    (one-left (left t o) (o .before .if1 .left) ∙ traced-ready (row t o) (place t o + 1) _ (left t o - 1) ∙ ap (λ (w : Tree). traced w (behind t (known-at t d))) (sym apart))
+    (one-left (left t o) (o .before .if1 .left) ∙ traced-ready (row t o) (place t o + 1) _ (left t o - 1) ∙ ap (λ (w : Tree). traced w (behind t (known-at t d))) (sym (c .before .start .ensures .settled (c .if4 .taken))))
 
 add-follow : (t : ℕ) → follow-lts.Need-add-follow (claims t) (follow-at t) follow.Post
-add-follow t c =
-    let d = c .before .before .before .before .before .before .before .before in
-    omega (arith, some-left t (split-at t (known-at t d)))
+add-follow t c = omega (arith, some-left t (split-at t (known-at t (c .before .before .before .before .before .before .before .before .before))))
 
 sub-follow : (t : ℕ) → follow-lts.Need-sub-follow (claims t) (follow-at t) follow.Post
-sub-follow t c =
-    let d = c .before .before .before .before .before .before .before .before in
-    omega (arith, told-at t (known-at t d) .before .if1 .left)
+sub-follow t c = omega (arith, told-at t (known-at t (c .before .before .before .before .before .before .before .before .before)) .before .if1 .left)
 
 follow-requires-3 : (t : ℕ) → follow-lts.Need-follow-requires-3 (claims t) (follow-at t) follow.Post
 follow-requires-3 t c κs =
-    let w = c .before .before .before .before .before .before in
+    let w = c .before .before .before .before .before .before .before in
     let d = w .before .before in
     let k = split-at t (known-at t d) in
     let o = told t k in
     let n = net t o in
-    let r = d .deleted .result in (
-      less t o _ (fewer (networkOf n) r (broken-is t d) (broken-below n (workable t o) (first t k) (first-fits t k) (link t k) (used t k))),
-      (
-        deleted-work n r (workable t o) _ (broken-is t d) (sized-of (d .deleted .lifetimes) r (d .deleted .ok)) (d .deleted .ensures .1) (omega (arith, w .before .pieces .ensures, w .if4 .left)),
-        omega (arith, o .before .if1 .left, o .before .before .pre .1 .1),
-        o .before .before .pre .1 .2,
-      ),
+    let b = w .before .start .ensures .simple (w .if4 .left) in (
+      less t o _ (omega (arith, b .2, fewer (terminalsOf n) (d .deleted .result) (broken-is t d) (broken-below n (workable t o) (first t k) (first-fits t k) (link t k) (used t k)))),
+      (b .0, omega (arith, o .before .if1 .left, o .before .before .pre .1 .1), o .before .before .pre .1 .2),
     )
 
 returns-4 : (t : ℕ) → follow-lts.Need-returns-4 (claims t) (follow-at t) follow.Post
-returns-4 t c = broken-traced t (c .before .before .before .before .before .before .before .before .before) (c .follow3 .ensures)
+returns-4 t c =
+    let w = c .before .before .before .before .before .before .before .before in
+    let d = w .before .before in
+    broken-traced t d (c .follow3 .ensures ∙ ap (λ (u : Tree). traced u (behind t (known-at t d))) (sym (w .before .start .ensures .simple (w .if4 .left) .1)))
 
 -- ---- the sound branch
 
@@ -431,14 +430,14 @@ Contracted t = follow-lts.After-contracted (claims t) (follow-at t) follow.Post
 abbrev running-at : (t : ℕ) → Contracted t → Place-known t
 running-at t l = l .before .before .before
 
-sound-is : (t : ℕ) (l : Contracted t) → networkOf (l .contracted .result) ≡ sound t (split-at t (running-at t l)) (net t (told-at t (running-at t l)))
+sound-is : (t : ℕ) (l : Contracted t) → terminalsOf (l .contracted .result) ≡ sound t (split-at t (running-at t l)) (net t (told-at t (running-at t l)))
 sound-is t l = l .contracted .ensures .0 ∙ ap (sound t (split-at t (running-at t l))) (l .before .assembled4 .ensures)
 
 sound-plainly : (t : ℕ) (k : Split-known t) → Plain (sound t k (net t (told t k)))
 sound-plainly t k = sound-left (net t (told t k)) (workable t (told t k)) (first t k) (first-fits t k) (link t k) (used t k)
 
 parallel-requires-2 : (t : ℕ) → follow-lts.Need-parallel-requires-2 (claims t) (follow-at t) follow.Post
-parallel-requires-2 t c κs = (c .contracted .ensures .1, subst Plain (sym (sound-is t c)) (sound-plainly t (split-at t (running-at t c))))
+parallel-requires-2 t c κs = (c .contracted .ensures .1, subst Plain (sym (sound-is t c)) (sound-plainly t (split-at t (running-at t c))) .loopless)
 
 add-follow-2 : (t : ℕ) → follow-lts.Need-add-follow-2 (claims t) (follow-at t) follow.Post
 add-follow-2 t c =
@@ -459,7 +458,7 @@ follow-requires-4 t c κs =
     let n = net t o in
     let r = l .contracted .result in
     let b = sound-below n (workable t o) (first t k) (first-fits t k) (link t k) (used t k) in (
-      less t o _ (unpaired-less (sound-plainly t k) r (q .result) (sound-is t l) (q .ensures .0) (networkOf n) b),
+      less t o _ (unpaired-less (sound-plainly t k) r (q .result) (sound-is t l) (q .ensures .0) (terminalsOf n) b),
       (
         unpaired-work (sound-plainly t k) r (q .result) (sound-is t l) (q .ensures .0) (sized-of (q .lifetimes) (q .result) (q .ok)) (q .ensures .1),
         omega (arith, o .before .if1 .left, o .before .before .pre .1 .1),
@@ -501,7 +500,7 @@ pub +follow-spec : {M : Type 1} → statement M
     (is-known-requires t)
     (assembled-requires-3 t)
     (deleted-requires t)
-    (pieces-requires t)
+    (start-requires t)
     (returns-3 t)
     (add-follow t)
     (sub-follow t)
