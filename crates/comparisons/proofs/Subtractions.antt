@@ -9,8 +9,8 @@ use Rattle.reliability.specs.declared.Figure.{Figure}
 use Rattle.reliability.specs.Networks.{Network as Graph, Valid, linkAt}
 use Rattle.reliability.specs.Rule.{deleted, contracted, figure}
 use Rattle.reliability.specs.Comparisons.{soundAt, brokenAt}
-use Rattle.reliability.proofs.Comparisons.{sound-valid, broken-valid, broken-sound}
-use Rattle.reliability.proofs.Unrolled.{figure-steps}
+use Rattle.reliability.proofs.Comparisons.{broken-sound}
+use Rattle.reliability.proofs.Theorems.{within-limit}
 
 module _ (g : Graph) (k : ℕ) where
   pub loop-sound : linkAt g k .a ≡ linkAt g k .b → deleted k g ≡ soundAt k g
@@ -25,8 +25,8 @@ module _ (g : Graph) (k : ℕ) where
     -- what is asked where the two are subtracted
     pub subtracts : (b .low ≤ s .high) × (s .steps < 2 ^ 31) × (b .steps < 2 ^ 31)
     subtracts =
-        let x = figure-steps (soundAt k g) limit (sound-valid g valid k place) in
-        let y = figure-steps (brokenAt k g) limit (broken-valid g valid k place) in (
+        let x = within-limit (soundAt k g) limit in
+        let y = within-limit (brokenAt k g) limit in (
           subst₂ (λ (f h : Figure). h .low ≤ f .high) (sym is) (sym ib) (broken-sound g valid k place limit),
           subst (λ (f : Figure). f .steps < 2 ^ 31) (sym is) (omega arith),
           subst (λ (f : Figure). f .steps < 2 ^ 31) (sym ib) (omega arith),

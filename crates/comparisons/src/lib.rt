@@ -1,4 +1,4 @@
-// What is made of two figures: the importance of a link, and the difference of two networks.
+// What is made of two figures, of all nodes: the importance of a link, and the difference of two networks.
 use network::Network;
 use reliability::Difference;
 use reliability::Figure;
@@ -9,7 +9,7 @@ ghost use Rattle.network.specs.Places.{networkOf, indexOf, Used, Invariant};
 
 // The importance of the link at place i. A loop's sound and broken networks are both the network without it.
 pub fn importance(net: Network, i: usize, limit: u64) -> Figure
-    requires { ⌜ Invariant net × Used net i × (limit < 2 ^ 31) ⌝ }
+    requires { ⌜ Invariant net × Used net i × (limit < 2 ^ 31) × (net .chosen ≡ net .nodes) ⌝ }
     ensures { λ r. ⌜ r ≡ importance (networkOf net) (indexOf net i) limit ⌝ }
 {
     let e = net.link(i);
@@ -23,7 +23,7 @@ pub fn importance(net: Network, i: usize, limit: u64) -> Figure
 
 // The difference of two networks: the first minus the second.
 pub fn difference(first: Network, second: Network, limit: u64) -> Difference
-    requires { ⌜ Invariant first × Invariant second × (limit < 2 ^ 31) ⌝ }
+    requires { ⌜ Invariant first × Invariant second × (limit < 2 ^ 31) × (first .chosen ≡ first .nodes) × (second .chosen ≡ second .nodes) ⌝ }
     ensures { λ r. ⌜ r ≡ difference (networkOf first) (networkOf second) limit ⌝ }
 {
     let f = factoring::work(first, limit);

@@ -16,15 +16,15 @@ use Rattle.reliability.specs.declared.Link.{Link}
 use Rattle.reliability.specs.declared.Step.{Step}
 use Rattle.reliability.specs.declared.Step.the-variants.{OneNode, Disconnected, Loop, Parallel, End, Series, Split}
 use Rattle.reliability.specs.Networks.{Network, Valid, ends, linkAt, connected, piecesOf}
-use Rattle.reliability.specs.Rule.{isLoop, touches, places, firstAt, firstPair, lowest, endOf, seriesOf, when, _otherwise_, chosen as splitPlace, across, Remainder, settled, rest, scaled, branches, run, splits}
+use Rattle.reliability.specs.Rule.{isLoop, touches, places, firstAt, firstPair, lowest, endOf, seriesOf, when, _otherwise_, chosen as splitPlace, across, deleted, contracted, Remainder, settled, rest, scaled, branches, run, splits}
 use Rattle.reliability.specs.Rule.{nextAt as nextAll, leaves as leavesAll, stepAt as stepAll, tree as treeAll, figure as figureAll, needed as neededAll}
-use Rattle.reliability.specs.Terminals.{Terminals, Chosen, everywhere, has, astray, between, seriesIn, nextAt, leaves, stepAt, splitAt, tree, figure, needed}
+use Rattle.reliability.specs.Terminals.{Terminals, Chosen, everywhere, has, astray, between, seriesIn, nextAt, soundLeft, leaves, stepAt, splitAt, tree, figure, needed}
 use Rattle.reliability.proofs.Connection.{connected-sound, connected-complete}
 use Rattle.reliability.proofs.Pieces.{one-piece}
 use Rattle.reliability.proofs.Searches.{Fails, none-found, Placed, placed}
 use Rattle.reliability.proofs.Validity.{proper-at, across-node, smaller-node, larger-node, valued}
 use Rattle.reliability.proofs.Lawful.{Leaves, Place, Reduces, Fewer, Sized, Lawful}
-use Rattle.reliability.proofs.Steps.{uniform}
+use Rattle.reliability.proofs.Steps.{AtSplit, uniform}
 use Rattle.reliability.proofs.Steps.{view as viewAll}
 use Rattle.reliability.proofs.Chosen.{mem-has, into-both}
 use Rattle.reliability.proofs.TerminalSteps.{view, Fits, fits-at, split-choice}
@@ -91,6 +91,13 @@ module _ (g : Network) (valid : Valid g) where
       go none false o false w = rw (parted o false w)
       go none false o true w = rw (parted o true w, none-found (astray (everywhere g)) es .1 (none-astray w), series)
 
+  -- with all nodes chosen both ends of a link are
+  pub sound-everywhere : (i : ℕ) → AtSplit g i → soundLeft i (everywhere g) ≡ everywhere (contracted (linkAt g i) (deleted i g))
+  sound-everywhere i k =
+      let e = linkAt g i in
+      let p = proper-at g valid i (k .place) in
+      rw (into-both (min (e .a) (e .b)) (max (e .a) (e .b)) vs (valid .ascending) (smaller-node vs e p) (larger-node vs e p) (λ q. k .differ (omega arith)))
+
   same-leaves : (s : Step) → Fits (everywhere g) s → leaves (everywhere g) s ≡ seen everywhere (leavesAll g s)
   unfolding leaves leavesAll
   same-leaves OneNode h = refl
@@ -102,11 +109,7 @@ module _ (g : Network) (valid : Valid g) where
       let k = h .0 in
       rw (mem-has v vs (k .node), into-both (across v e) v vs (valid .ascending) (across-node vs v e (proper-at g valid i (k .place))) (k .node) (k .leg .differ))
   same-leaves (Series v i j) h = rw (mem-has v vs (h .two .node))
-  same-leaves (Split i) h =
-      let e = linkAt g i in
-      let k = h .0 in
-      let p = proper-at g valid i (k .place) in
-      rw (into-both (min (e .a) (e .b)) (max (e .a) (e .b)) vs (valid .ascending) (smaller-node vs e p) (larger-node vs e p) (λ q. k .differ (omega arith)))
+  same-leaves (Split i) h = ap (λ (s : Terminals). branches (linkAt g i) s (everywhere (deleted i g))) (sound-everywhere i (h .0))
 
   pub chosen-all : Chosen (everywhere g)
   chosen-all = record { valid = valid; ascending = valid .ascending; nodes = λ v m. m }

@@ -5,7 +5,7 @@ use Rattle.reliability.specs.declared.Link.{Link}
 use native.Mathlib.Omega.{arith}
 use Rattle.reliability.specs.Networks.{Proper}
 use borrow.Author.Needs.{needs}
-use Rattle.search.specs.Searches.{from}
+use Rattle.search.specs.Searches.{from, nodesIn}
 use Rattle.network.specs.Places.{nodesOf, linksOf, Built, Invariant}
 use Rattle.tables.specs.Tables.{rating, AcceptedTable}
 use Rattle.tables.proofs.Theorems.{rating-range}
@@ -19,7 +19,7 @@ use Rattle.loading.proofs.network_of.Tie as tie
 
 abbrev Inv-loop : tie.InvT-loop
 Inv-loop plan table m net₀ i₀ net i =
-    (m ≡ sizeM plan) × (i ≤ m) × Built net i × Invariant net × (nodesOf net ≡ from 0 (sizeN plan)) × (linksOf net ≡ map (linkIn (rating table) plan) (from 0 i))
+    (m ≡ sizeM plan) × (i ≤ m) × Built net i × Invariant net × (nodesOf net ≡ from 0 (sizeN plan)) × (linksOf net ≡ map (linkIn (rating table) plan) (from 0 i)) × (net .chosen ≡ net .nodes)
 
 proper-in : (table b : List ℕ) (j : ℕ) → AcceptedTable table → verdict b ≡ Accepted → j < sizeM b → Proper (from 0 (sizeN b)) (linkIn (rating table) b j)
 proper-in table b j fine accepted h =
@@ -49,7 +49,7 @@ unfolding from
 loop-holds c =
     let e = c .before .before .before .sizes-of .ensures in
     let n = c .new .ensures in
-    (e .1, omega arith, n .2, n .3, n .0 ∙ ap (from 0) (e .0), n .1)
+    (e .1, omega arith, n .3, n .4, n .0 ∙ ap (from 0) (e .0), n .2, n .1)
 
 link-at-requires : tie.Need-link-at-requires Inv-loop μ-loop
 link-at-requires c κs =
@@ -77,10 +77,11 @@ loop-again c =
     let a = c .before .before .before .before .before .before .before .before .before .before .args in (
       l .0,
       omega arith,
-      e .2,
       e .3,
-      e .0 ∙ l .4,
-      e .1 ∙ ap₂ (λ (xs : List Link) (x : Link). xs ++ (x ∷ [])) (l .5) (c .before .link-at .ensures) ∙ sym (from-more (linkIn (rating (a .table .now)) (a .plan .now)) (c .before .before .before .loop .i)),
+      e .4,
+      ap nodesIn (e .0) ∙ l .4,
+      e .2 ∙ ap₂ (λ (xs : List Link) (x : Link). xs ++ (x ∷ [])) (l .5) (c .before .link-at .ensures) ∙ sym (from-more (linkIn (rating (a .table .now)) (a .plan .now)) (c .before .before .before .loop .i)),
+      e .1 ∙ l .6 ∙ sym (e .0),
     )
 
 returns : tie.Need-returns Inv-loop μ-loop
@@ -88,7 +89,7 @@ returns c =
     let l = c .before .loop .inv in
     let a = c .before .before .before .before .before .before .before .before .args in
     let all : c .before .loop .i ≡ sizeM (a .plan .now) = omega (arith, l .0) in
-    ((λ j. record { nodes = l .4 j; links = (l .5 ∙ ap (λ k. map (linkIn (rating (a .table .now)) (a .plan .now)) (from 0 k)) all) j }), subst (Built (c .before .loop .net)) all (l .2), l .3)
+    ((λ j. record { nodes = l .4 j; links = (l .5 ∙ ap (λ k. map (linkIn (rating (a .table .now)) (a .plan .now)) (from 0 k)) all) j }), subst (Built (c .before .loop .net)) all (l .2), l .3, l .6)
 
 pub network-of-spec : {M : Type 1} → statement M
 network-of-spec =
