@@ -7,6 +7,7 @@ use lib.ListN.{length}
 use borrow.Author.Needs.{needs}
 use borrow.Author.Tests.{leb-true, leb-false}
 use Rattle.bits.specs.Members.{members, howMany}
+use Rattle.rounding.specs.Rounding.{S}
 use Rattle.reliability.specs.Networks.{ends, connected}
 use Rattle.reliability.specs.Rule.{isLoop, firstAt, ready}
 use Rattle.reliability.specs.Terminals.{Terminals, among, tree}
@@ -34,7 +35,7 @@ module _ (m n : Network) (holds : Invariant m) (made : (terminalsOf n ≡ among 
   alike : tree (terminalsOf m) ≡ tree (terminalsOf n)
   alike = unlooped-tree (terminalsOf m) (chosen-of m holds) ∙ ap tree (sym (made .0))
 
-  one : length (chosenOf n) ≤ 1 → tree (terminalsOf m) ≡ ready (λ d. 1000000000)
+  one : length (chosenOf n) ≤ 1 → tree (terminalsOf m) ≡ ready (λ d. S)
   one few = alike ∙ one-tree (terminalsOf n) (chosen-of n (made .1)) loopless few
 
   apart : connected (chosenOf n) (map ends (linksOf n)) ≡ false → tree (terminalsOf m) ≡ ready (λ d. 0)
