@@ -1,5 +1,5 @@
 -- The piece of the chosen nodes, and the links outside of it, which go.
-use Prim.Native.Nat.{ℕ, zero, suc, _^_, _<_}
+use Prim.Native.Nat.{ℕ, suc, _^_, _<_}
 use mathlib.Core.Path.{_≡_, refl, sym, ap, ap₂, _∙_}
 use mathlib.Core.Logic.{⊎-elim}
 use mathlib.Core.List.{List, [], _∷_, map, List·Memᴰ}
@@ -11,14 +11,15 @@ use borrow.Author.Tests.{eqb-true, eq-eqb}
 use Rattle.bits.specs.Members.{members, firstOf, difference}
 use Rattle.reliability.specs.declared.Link.{Link}
 use Rattle.reliability.specs.Networks.{Ends, ends, every, label, connected, together, here, forth}
-use Rattle.reliability.specs.Terminals.{Terminals, among, astray}
+use Rattle.reliability.specs.Terminals.{among, astray}
 use Rattle.reliability.specs.Simple.{Loopless, dropping, trimmed}
 use Rattle.reliability.proofs.Lists.{both-ways, not-true-false, or-true, every-at, every-of}
 use Rattle.reliability.proofs.Connection.{label-const, label-means, connected-means, connected-sound, one-more}
+use Rattle.reliability.proofs.TerminalSteps.{not-true}
 use Rattle.reliability.proofs.Trimmed.{pieces-at-once}
 use Rattle.search.specs.Searches.{pick, nodesIn, endsIn, touching, Inside, Incidence, Bounded}
 use Rattle.search.proofs.Sets.{has, has-none, has-below, has-place, has-fits, has-zip, has-mem, mem-has, same-length, at-node}
-use Rattle.search.proofs.Marks.{Lowest, length-places, lowest-of, lowest-in}
+use Rattle.search.proofs.Marks.{length-places, lowest-of, lowest-in}
 use Rattle.pieces.specs.Pieces.{Closed}
 use Rattle.pieces.proofs.Flood.{mem-ends}
 use Rattle.parts.specs.Tallies.{Cleared, Remaining}
@@ -26,9 +27,13 @@ use Rattle.parts.proofs.Laws.{counted}
 use Rattle.network.specs.declared.Network.{Network}
 use Rattle.network.specs.Places.{networkOf, terminalsOf, linksOf, nodesOf, chosenOf, Invariant, Sized}
 use Rattle.network.proofs.Ends.{links-ends, ended, bounded}
-use Rattle.network.proofs.Picks.{row, rowAt, allRows, all-even, rows-at}
+use Rattle.network.proofs.Picks.{row, allRows, all-even, rows-at}
 use Rattle.network.proofs.Kept.{chosen-of, stands}
 use Rattle.simple.specs.Begins.{Several, ChosenPiece}
+
+-- what is in one set and not in another
+has-difference : (r s t : ℕ) → members r ≡ difference (members s) (members t) → (p : ℕ) → has r p ≡ (has s p && not (has t p))
+has-difference = has-zip (λ b d. b && not d) refl
 
 -- ---- the piece of the lowest chosen node
 
@@ -73,11 +78,8 @@ module _ (n : Network) (sized : Sized n) (several : Several n) (piece : ℕ) (of
 
   -- the chosen nodes outside of it: none, or some
   module _ (rest : ℕ) (outside : members rest ≡ difference (members (n .chosen)) (members piece)) where
-    has-outside : (p : ℕ) → has rest p ≡ (has (n .chosen) p && not (has piece p))
-    has-outside = has-zip (λ b d. b && not d) refl rest (n .chosen) piece outside
-
     pub none-outside : rest ≡ 0 → Inside (n .chosen) piece
-    none-outside e p h = go (has piece p) (sym (has-none p) ∙ ap (λ (s : ℕ). has s p) (sym e) ∙ has-outside p ∙ ap (λ (b : Bool). b && not (has piece p)) h)
+    none-outside e p h = go (has piece p) (sym (has-none p) ∙ ap (λ (s : ℕ). has s p) (sym e) ∙ has-difference rest (n .chosen) piece outside p ∙ ap (λ (b : Bool). b && not (has piece p)) h)
       where
         go : (b : Bool) → false ≡ not b → b ≡ true
         go true h = refl
@@ -86,12 +88,8 @@ module _ (n : Network) (sized : Sized n) (several : Several n) (piece : ℕ) (of
     pub some-outside : Inside (n .chosen) (n .nodes) → 0 < rest → rest < 2 ^ 64 → connected (chosenOf n) (map ends (linksOf n)) ≡ false
     some-outside within some small =
         let u = firstOf (members rest) in
-        let h = and-eq-true-iff (has (n .chosen) u) (not (has piece u)) .0 (sym (has-outside u) ∙ lowest-in rest u (lowest-of rest u some small refl)) in
-        piece-apart within u (h .0) (go (has piece u) (h .1))
-      where
-        go : (b : Bool) → not b ≡ true → b ≡ false
-        go true h = sym h
-        go false h = refl
+        let h = and-eq-true-iff (has (n .chosen) u) (not (has piece u)) .0 (sym (has-difference rest (n .chosen) piece outside u) ∙ lowest-in rest u (lowest-of rest u some small refl)) in
+        piece-apart within u (h .0) (not-true (has piece u) (h .1))
 
 -- ---- the links outside of the piece go
 
@@ -99,7 +97,7 @@ module _ (n : Network) (sized : Sized n) (several : Several n) (piece : ℕ) (of
 pub outside-fits : (n : Network) → Sized n → (piece others : ℕ) → members others ≡ difference (members (n .nodes)) (members piece) → others < 2 ^ 64 → others < 2 ^ 32
 outside-fits n sized piece others outside small = has-fits others 32 small (λ p h.
     has-below (n .nodes) 32 p (sized .nodes)
-    (and-eq-true-iff (has (n .nodes) p) (not (has piece p)) .0 (sym (has-zip (λ b d. b && not d) refl others (n .nodes) piece outside p) ∙ h) .0))
+    (and-eq-true-iff (has (n .nodes) p) (not (has piece p)) .0 (sym (has-difference others (n .nodes) piece outside p) ∙ h) .0))
 
 -- of the places in use those stay at which a test does not hold
 pub pick-dropping : (test : Link → Bool) (z : Link) (bs us : List Bool) (es : List Link) → length bs ≡ length us
@@ -142,15 +140,16 @@ module _ (n : Network) (sized : Sized n) (holds : Invariant n) (several : Severa
       ∙ sym (in-piece n sized several piece of-piece (a p) (nodes .0))
 
   has-others : (v : ℕ) → has others v ≡ (has (n .nodes) v && not (has piece v))
-  has-others = has-zip (λ b d. b && not d) refl others (n .nodes) piece outside
+  has-others = has-difference others (n .nodes) piece outside
 
   -- a node at which there is a link is outside where the link is
   touched : (v p : ℕ) → has (n .alive) p ≡ true → touching v (a p) (b p) ≡ true → has others v ≡ not (has piece (a p))
   touched v p u h =
       let nodes = ended n sized (holds .valid) p u in
-      let is : (w : ℕ) → w ≡ v → has (n .nodes) w ≡ true → has piece w ≡ has piece (a p) → has others v ≡ not (has piece (a p)) = λ w e k s.
-          ap (has others) (sym e) ∙ has-others w ∙ ap₂ (λ (x y : Bool). x && not y) k s in
-      ⊎-elim (λ q. is (a p) (eqb-true (a p) v q) (nodes .0) refl) (λ q. is (b p) (eqb-true (b p) v q) (nodes .1) (both-ends p u)) (or-true (eqb (a p) v) (eqb (b p) v) h)
+      ⊎-elim (λ q. here-at (a p) (eqb-true (a p) v q) (nodes .0) refl) (λ q. here-at (b p) (eqb-true (b p) v q) (nodes .1) (both-ends p u)) (or-true (eqb (a p) v) (eqb (b p) v) h)
+    where
+      here-at : (w : ℕ) → w ≡ v → has (n .nodes) w ≡ true → has piece w ≡ has piece (a p) → has others v ≡ not (has piece (a p))
+      here-at w e k s = ap (has others) (sym e) ∙ has-others w ∙ ap₂ (λ (x y : Bool). x && not y) k s
 
   at-v : (v p : ℕ) → v < 32 → has (getD (n .at) v 0) p ≡ (has (n .alive) p && touching v (a p) (b p))
   at-v v p h = at-node (n .at) (n .a) (n .b) (n .alive) (holds .tallies) v h p
@@ -184,7 +183,7 @@ module _ (n : Network) (sized : Sized n) (holds : Invariant n) (several : Severa
               let node = and-eq-true-iff (has (n .nodes) v) (not (has piece v)) .0 (sym (has-others v) ∙ o) .0 in
               ap not (at-v v p (below-32 v node) ∙ ap₂ _&&_ u (not-true-false (λ k. true≢false (sym o ∙ touched v p u k ∙ ap not h)))))
 
-  -- and no other node has lost one
+  -- each node has those that are left
   tallied : Incidence after left (n .a) (n .b)
   tallied = counted after (n .a) (n .b) left (record { a-length = sized .a-length; b-length = sized .b-length }) (λ v p h k.
       ap (λ (us : List Bool). getD us p false) (cleared .sets v)
@@ -205,28 +204,29 @@ module _ (n : Network) (sized : Sized n) (holds : Invariant n) (several : Severa
       go true true true o h = ap (λ (x : Bool). cond x false true) (h refl refl)
       go true true false o h = ap (λ (x : Bool). cond x false true) (h refl refl)
 
-  module _ (loopless : Loopless (networkOf n)) where
-    whole : connected (chosenOf n) (map ends (linksOf n)) ≡ true
-    whole = piece-whole n sized several piece of-piece inside
+  whole : connected (chosenOf n) (map ends (linksOf n)) ≡ true
+  whole = piece-whole n sized several piece of-piece inside
 
-    -- they are those that are not astray
-    links-left : pick (members left) (allRows n) ≡ dropping (astray (terminalsOf n)) (linksOf n)
-    links-left = pick-dropping (astray (terminalsOf n)) (row 0 0 0 0) (members left) (members (n .alive)) (allRows n) (same-length left (n .alive)) (λ p. has-left p ∙ go p (has (n .alive) p) refl)
-      where
-        twice : (d : Bool) → d ≡ not (not d)
-        twice true = refl
-        twice false = refl
+  -- the links left are those that are not astray
+  links-left : pick (members left) (allRows n) ≡ dropping (astray (terminalsOf n)) (linksOf n)
+  links-left = pick-dropping (astray (terminalsOf n)) (row 0 0 0 0) (members left) (members (n .alive)) (allRows n) (same-length left (n .alive)) (λ p. has-left p ∙ go p (has (n .alive) p) refl)
+    where
+      twice : (d : Bool) → d ≡ not (not d)
+      twice true = refl
+      twice false = refl
 
-        go : (p : ℕ) (u : Bool) → has (n .alive) p ≡ u → (u && has piece (a p)) ≡ (u && not (astray (terminalsOf n) (getD (allRows n) p (row 0 0 0 0))))
-        go p false u = refl
-        go p true u =
-            let c = firstOf (members (n .chosen)) in
-            in-piece n sized several piece of-piece (a p) (ended n sized (holds .valid) p u .0)
-            ∙ ap (λ (s : List Ends). eqb (label s (a p)) (label s c)) (sym (links-ends n sized))
-            ∙ sym (one-more (a p) c (chosenOf n) (map ends (linksOf n)) whole (has-mem (n .chosen) c (lowest-chosen n several)))
-            ∙ twice _
-            ∙ ap (λ (e : Link). not (astray (terminalsOf n) e)) (sym (rows-at (all-even n sized) p))
+      go : (p : ℕ) (u : Bool) → has (n .alive) p ≡ u → (u && has piece (a p)) ≡ (u && not (astray (terminalsOf n) (getD (allRows n) p (row 0 0 0 0))))
+      go p false u = refl
+      go p true u =
+          let c = firstOf (members (n .chosen)) in
+          in-piece n sized several piece of-piece (a p) (ended n sized (holds .valid) p u .0)
+          ∙ ap (λ (s : List Ends). eqb (label s (a p)) (label s c)) (sym (links-ends n sized))
+          ∙ sym (one-more (a p) c (chosenOf n) (map ends (linksOf n)) whole (has-mem (n .chosen) c (lowest-chosen n several)))
+          ∙ twice _
+          ∙ ap (λ (e : Link). not (astray (terminalsOf n) e)) (sym (rows-at (all-even n sized) p))
 
-    pub kept-right : let r : Network = record { alive = left; at = after; low = n .low; high = n .high; a = n .a; b = n .b; nodes = n .nodes; chosen = n .chosen } in (terminalsOf r ≡ trimmed (terminalsOf n)) × Invariant r
-    kept-right = stands _ (λ i. among (chosenOf n) (record { nodes = nodesOf n; links = links-left i }))
-        (pieces-at-once (terminalsOf n) (chosen-of n holds) loopless several whole .plain .valid) tallied
+  -- what is left is the network without its links astray
+  pub kept-right : Loopless (networkOf n)
+      → let r : Network = record { alive = left; at = after; low = n .low; high = n .high; a = n .a; b = n .b; nodes = n .nodes; chosen = n .chosen } in (terminalsOf r ≡ trimmed (terminalsOf n)) × Invariant r
+  kept-right loopless = stands _ (λ i. among (chosenOf n) (record { nodes = nodesOf n; links = links-left i }))
+      (pieces-at-once (terminalsOf n) (chosen-of n holds) loopless several whole .plain .valid) tallied

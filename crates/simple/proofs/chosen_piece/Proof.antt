@@ -1,5 +1,4 @@
 use mathlib.Core.Path.{subst}
-use Prim.Native.Nat.{ℕ}
 use borrow.Author.Needs.{needs}
 use Rattle.search.specs.Searches.{endsIn}
 use Rattle.pieces.specs.Pieces.{PieceOf}

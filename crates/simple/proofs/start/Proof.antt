@@ -1,4 +1,4 @@
-use Prim.Native.Nat.{ℕ, _≤_, _<_}
+use Prim.Native.Nat.{_≤_, _<_}
 use mathlib.Core.Path.{_≡_, sym, ap, _∙_}
 use mathlib.Core.List.{map}
 use mathlib.Core.Bool.{true, false, true≢false}
@@ -7,6 +7,7 @@ use lib.ListN.{length}
 use borrow.Author.Needs.{needs}
 use borrow.Author.Tests.{leb-true, leb-false}
 use Rattle.bits.specs.Members.{members, howMany}
+use Rattle.rounding.specs.Rounding.{S}
 use Rattle.reliability.specs.Networks.{ends, connected}
 use Rattle.reliability.specs.Rule.{isLoop, firstAt, ready}
 use Rattle.reliability.specs.Terminals.{Terminals, among, tree}
@@ -28,23 +29,23 @@ use Rattle.simple.proofs.start.Statement.{statement}
 use Rattle.simple.proofs.start.Tie as tie
 
 -- n is m without its loops
-module _ (m n : Network) (holds : Invariant m) (own : Invariant n) (is : terminalsOf n ≡ among (chosenOf m) (withoutLoops (networkOf m))) where
+module _ (m n : Network) (holds : Invariant m) (made : (terminalsOf n ≡ among (chosenOf m) (withoutLoops (networkOf m))) × Invariant n) where
   loopless : Loopless (networkOf n)
-  loopless = ap (λ (g : Terminals). firstAt isLoop (g .network .links)) is ∙ unlooped-loopless (networkOf m)
+  loopless = ap (λ (g : Terminals). firstAt isLoop (g .network .links)) (made .0) ∙ unlooped-loopless (networkOf m)
 
   alike : tree (terminalsOf m) ≡ tree (terminalsOf n)
-  alike = unlooped-tree (terminalsOf m) (chosen-of m holds) ∙ ap tree (sym is)
+  alike = unlooped-tree (terminalsOf m) (chosen-of m holds) ∙ ap tree (sym (made .0))
 
-  one : length (chosenOf n) ≤ 1 → tree (terminalsOf m) ≡ ready (λ d. 1000000000)
-  one few = alike ∙ one-tree (terminalsOf n) (chosen-of n own) loopless few
+  one : length (chosenOf n) ≤ 1 → tree (terminalsOf m) ≡ ready (λ d. S)
+  one few = alike ∙ one-tree (terminalsOf n) (chosen-of n (made .1)) loopless few
 
   apart : connected (chosenOf n) (map ends (linksOf n)) ≡ false → tree (terminalsOf m) ≡ ready (λ d. 0)
-  apart h = alike ∙ apart-tree (terminalsOf n) (chosen-of n own) h
+  apart h = alike ∙ apart-tree (terminalsOf n) (chosen-of n (made .1)) h
 
   -- the chosen nodes are in one piece: r is n without the others, and q is r without pairs
   module _ (several : Several n) (connects : connected (chosenOf n) (map ends (linksOf n)) ≡ true) (r : Network) (stays : terminalsOf r ≡ trimmed (terminalsOf n)) where
     left : Left (terminalsOf n) (trimmed (terminalsOf n))
-    left = pieces-at-once (terminalsOf n) (chosen-of n own) loopless several connects
+    left = pieces-at-once (terminalsOf n) (chosen-of n (made .1)) loopless several connects
 
     left-loopless : Loopless (networkOf r)
     left-loopless = ap (λ (g : Terminals). firstAt isLoop (g .network .links)) stays ∙ left .plain .loopless
@@ -52,10 +53,11 @@ module _ (m n : Network) (holds : Invariant m) (own : Invariant n) (is : termina
     begun : (q : Network) → terminalsOf q ≡ among (chosenOf r) (unpaired (networkOf r)) → Sized q → Invariant q
         → Workable q × (tree (terminalsOf m) ≡ tree (terminalsOf q)) × (length (linksOf q) ≤ length (linksOf m))
     begun q joins sized kept =
-        let few = unpaired-few (left .plain) r q stays joins in
-        (unpaired-work (left .plain) r q stays joins sized kept,
-        alike ∙ left .work ∙ unpaired-same (left .plain) r q stays joins,
-        omega (arith, few, left .few, ap (λ (g : Terminals). length (g .network .links)) is, dropping-few isLoop (linksOf m)))
+        let few = unpaired-few (left .plain) r q stays joins in (
+          unpaired-work (left .plain) r q stays joins sized kept,
+          alike ∙ left .work ∙ unpaired-same (left .plain) r q stays joins,
+          omega (arith, few, left .few, ap (λ (g : Terminals). length (g .network .links)) (made .0), dropping-few isLoop (linksOf m)),
+        )
 
 -- ---- the code
 
@@ -105,7 +107,7 @@ returns c =
     let l = without o .without-loops in
     let few = leb-true (howMany (members (net o .chosen))) 1 (sym (o .at-most-one .ensures) ∙ c .if1 .taken) in
     record {
-      settled = λ h. one (given o) (net o) (without o .before .pre) (l .ensures .1) (l .ensures .0) (omega (arith, few, length-places (net o .chosen)));
+      settled = λ h. one (given o) (net o) (without o .before .pre) (l .ensures) (omega (arith, few, length-places (net o .chosen)));
       simple = λ h. absurd (true≢false h);
     }
 
@@ -125,7 +127,7 @@ returns-2 c =
     let some : 0 < d .difference .result = search (needs, c .if2 .taken) in
     let split = some-outside (net o) (sized o) (several e) (p .chosen-piece .result) (p .chosen-piece .ensures) (d .difference .result) (d .difference .ensures) (l .ensures .1 .inside) some (search needs) in
     record {
-      settled = λ h. apart (given o) (net o) (without o .before .pre) (l .ensures .1) (l .ensures .0) split;
+      settled = λ h. apart (given o) (net o) (without o .before .pre) (l .ensures) split;
       simple = λ h. absurd (true≢false h);
     }
 
@@ -135,14 +137,14 @@ kept-requires c κs =
     let e = p .before in
     let o = e .before in
     let l = without o .without-loops in
-    (l .ensures .1, several e, loopless (given o) (net o) (without o .before .pre) (l .ensures .1) (l .ensures .0), p .chosen-piece .ensures, inside c)
+    (l .ensures .1, several e, loopless (given o) (net o) (without o .before .pre) (l .ensures), p .chosen-piece .ensures, inside c)
 
 parallel-requires : tie.Need-parallel-requires
 parallel-requires c κs =
     let e = c .before .before .before .before in
     let o = e .before in
     let l = without o .without-loops in
-    (c .kept .ensures .1, left-loopless (given o) (net o) (without o .before .pre) (l .ensures .1) (l .ensures .0) (several e) (whole (c .before)) (c .kept .result) (c .kept .ensures .0))
+    (c .kept .ensures .1, left-loopless (given o) (net o) (without o .before .pre) (l .ensures) (several e) (whole (c .before)) (c .kept .result) (c .kept .ensures .0))
 
 returns-3 : tie.Need-returns-3
 returns-3 c =
@@ -153,7 +155,7 @@ returns-3 c =
     let q = c .parallel in
     record {
       settled = λ h. absurd (true≢false (sym h));
-      simple = λ h. begun (given o) (net o) (without o .before .pre) (l .ensures .1) (l .ensures .0) (several e) (whole (k .before)) (k .kept .result) (k .kept .ensures .0)
+      simple = λ h. begun (given o) (net o) (without o .before .pre) (l .ensures) (several e) (whole (k .before)) (k .kept .result) (k .kept .ensures .0)
           (q .result) (q .ensures .0) (sized-of (q .lifetimes) (q .result) (q .ok)) (q .ensures .1);
     }
 
