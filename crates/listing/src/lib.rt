@@ -32,7 +32,7 @@ fn put_plan(text: &mut [u8], plan: &[u8]) -> usize
 {
     let s = reader::sizes_of(plan);
     let net = loading::built_in(plan);
-    let k = steps::pieces(net);
+    let k = simple::pieces(net);
     let f = factoring::work(net, listing_lines::FIGURE_LIMIT);
     let first = listing_lines::put_sizes(text, s.n, s.m, k);
     let second = listing_lines::put_figure(text, first, f);

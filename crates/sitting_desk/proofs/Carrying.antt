@@ -50,17 +50,17 @@ module _ (plan table saved : List ℕ) (h : Resumable plan table saved) where
   work = begun-means saved (passes .0) (h .begun)
 
   module _ (row : List ℕ) (r : InRow saved row) where
-    pub carries : (g : Network) (c : ℕ) → g ≡ planOf (rating table) plan → c ≡ countIn saved → Carries (tree g) row 0 c
-    carries g c e k =
+    pub carries : (u : Tree) (c : ℕ) → u ≡ tree (planOf (rating table) plan) → c ≡ countIn saved → Carries u row 0 c
+    carries u c e k =
         let same : opensIn row 0 c ≡ opensOf saved = ap (opensIn row 0) k ∙ r .same in
         record {
           size = r .size;
-          traces = ap₂ (λ (g : Network) os. traced (tree g) os) e same ∙ passes .1;
+          traces = ap₂ traced e same ∙ passes .1;
           range = subst (Known InRange) (sym same) (work .range);
         }
 
-    pub same-work : (g : Network) (c : ℕ) → g ≡ planOf (rating table) plan → c ≡ countIn saved → resumed (tree g) (opensIn row 0 c) ≡ workOf plan table saved
-    same-work g c e k = ap₂ (λ (g : Network) os. resumed (tree g) os) e (ap (opensIn row 0) k ∙ r .same)
+    pub same-work : (u : Tree) (c : ℕ) → u ≡ tree (planOf (rating table) plan) → c ≡ countIn saved → resumed u (opensIn row 0 c) ≡ workOf plan table saved
+    same-work u c e k = ap₂ resumed e (ap (opensIn row 0) k ∙ r .same)
 
   pub few-aside : (l : ℕ) → length (aside (workOf plan table saved) l) ≤ 64
   few-aside l = aside-few 64 t (plan-deep plan (rating table) (rating-range table (h .tabled)) (accepted-means plan .0 (h .planned))) (opensOf saved) l

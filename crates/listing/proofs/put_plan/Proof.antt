@@ -6,9 +6,11 @@ use lib.ListN.{length}
 use lib.Seq.{sets}
 use Rattle.ratings.specs.Ratings.{T}
 use Rattle.reliability.specs.declared.Figure.{Figure}
-use Rattle.reliability.specs.Networks.{Network as Graph, piecesOf}
-use Rattle.reliability.specs.Rule.{figure}
-use Rattle.network.specs.Places.{networkOf}
+use Rattle.reliability.specs.Networks.{piecesOf}
+use Rattle.reliability.specs.Rule.{Tree, run}
+use Rattle.reliability.specs.Terminals.{figure as figureOf}
+use Rattle.network.specs.Places.{terminalsOf}
+use Rattle.loading.proofs.Stands.{stands-tree}
 use Rattle.plan.specs.declared.Verdict.the-variants.{Accepted}
 use Rattle.plan.specs.Plans.{sizeN, sizeM, planOf}
 use Rattle.plan.proofs.Verdicts.{accepted-means}
@@ -73,8 +75,9 @@ sizes-next c =
 figure-next : (c : tie.After-work) → let b = start c .args .plan .now in pair b ++ later b ≡ figureLine (c .work .result) ++ later b
 figure-next c =
     let b = start c .args .plan .now in
-    let worked : c .work .result ≡ figure (networkOf (c .before .before .built-in .result)) figureLimit = c .work .ensures in
-    ap (λ (f : Figure). figureLine f ++ later b) (sym (worked ∙ ap (λ (g : Graph). figure g figureLimit) (c .before .before .built-in .ensures .0)))
+    let n = c .before .before .built-in in
+    let worked : c .work .result ≡ figureOf (terminalsOf (n .result)) figureLimit = c .work .ensures in
+    ap (λ (f : Figure). figureLine f ++ later b) (sym (worked ∙ ap (λ (t : Tree). run t figureLimit) (stands-tree _ (n .result) (n .ensures .0) (n .ensures .3) (n .ensures .2))))
 
 sized : (c : tie.After-put-sizes) → let a = start (c .before .before) .args in Left (a .plan .now) (a .text .now) (c .put-sizes .last .0) (c .put-sizes .result) (pair (a .plan .now) ++ later (a .plan .now))
 sized c =

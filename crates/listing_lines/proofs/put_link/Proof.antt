@@ -31,7 +31,7 @@ importance-requires c κs =
     let a = c .before .before .before .before .args in
     let k = c .before .before .before .before .pre in
     let n = c .before .built-in in
-    (n .ensures .2, built-used (n .result) (sizeM (a .plan .now)) (n .ensures .1) (a .i) (k .1), omega arith)
+    (n .ensures .2, built-used (n .result) (sizeM (a .plan .now)) (n .ensures .1) (a .i) (k .1), omega arith, n .ensures .3)
 
 slice-aggregate-put-line : tie.Need-slice-aggregate-put-line
 slice-aggregate-put-line c = search needs

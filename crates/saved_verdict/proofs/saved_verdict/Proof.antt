@@ -3,8 +3,8 @@ use mathlib.Core.Bool.{true, false}
 use native.Mathlib.Omega.{arith}
 use borrow.Author.Needs.{needs}
 use borrow.Author.Tests.{not-true, not-false, eqb-true, eqb-false}
-use Rattle.reliability.specs.Networks.{Network}
 use Rattle.reliability.specs.Rule.{tree}
+use Rattle.loading.proofs.Stands.{stands-tree}
 use Rattle.tables.specs.Tables.{rating}
 use Rattle.plan.specs.Plans.{planOf}
 use Rattle.sittings.specs.Sittings.{traced}
@@ -61,7 +61,8 @@ traced-is : (c : tie.After-traces) → let a = c .before .before .before .before
     c .traces .result ≡ traced (tree (planOf (rating (a .table .now)) (a .plan .now))) (opensOf (a .saved .now))
 traced-is c =
     let q = c .before .before .before .before in
-    c .traces .ensures ∙ ap₂ (λ (g : Network) os. traced (tree g) os) (c .before .before .before .network-of .ensures .0) (ap (opensIn (q .row-of .result) 0) (c .before .count-of .ensures) ∙ q .row-of .ensures)
+    let n = c .before .before .before .network-of in
+    c .traces .ensures ∙ ap₂ traced (stands-tree _ (n .result) (n .ensures .0) (n .ensures .3) (n .ensures .2)) (ap (opensIn (q .row-of .result) 0) (c .before .count-of .ensures) ∙ q .row-of .ensures)
 
 returns-3 : tie.Need-returns-3
 returns-3 c =

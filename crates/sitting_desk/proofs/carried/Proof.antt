@@ -1,7 +1,9 @@
 use Prim.Native.Nat.{_-_, min}
 use mathlib.Core.Path.{refl, ap, _∙_}
 use native.Mathlib.Omega.{arith}
-use Rattle.network.specs.Places.{networkOf}
+use Rattle.reliability.specs.Terminals.{tree}
+use Rattle.network.specs.Places.{terminalsOf}
+use Rattle.loading.proofs.Stands.{stands-tree}
 use Rattle.sittings.specs.Sittings.{most}
 use Rattle.saved.specs.Format.{takenIn}
 use Rattle.sitting_desk.specs.Carrying.{workOf, leftOf}
@@ -36,7 +38,7 @@ returns c =
     let q = c .before .before .before .before .before .before .count-of in
     let taken = c .before .before .before .before .before .taken-of in
     resumed-of _ (workOf (a .plan .now) (a .table .now) (a .saved .now)) _ (leftOf (a .limit) (a .saved .now)) (taken .result) (takenIn (a .saved .now)) (a .row .now) _ (c .before .carry .result) _
-    (same-work (a .plan .now) (a .table .now) (a .saved .now) (s .pre .0) (a .row .now) (s .pre .1) (networkOf (n .result)) (q .result) (n .ensures .0) (q .ensures))
+    (same-work (a .plan .now) (a .table .now) (a .saved .now) (s .pre .0) (a .row .now) (s .pre .1) (tree (terminalsOf (n .result))) (q .result) (stands-tree _ (n .result) (n .ensures .0) (n .ensures .3) (n .ensures .2)) (q .ensures))
     (c .before .before .before .before .allowance .ensures ∙ ap (λ k. min (a .limit) (most - k)) (taken .ensures))
     (taken .ensures) (c .before .carry .ensures) (c .with-earlier .ensures) refl
 
@@ -45,7 +47,7 @@ carry-requires c κs =
     let s = c .before .before .before .before .before .before .before .before in
     let n = c .before .network-of in
     let q = c .before .before .before .before .count-of in
-    (n .ensures .2, omega (arith, c .before .before .allowance .ensures), carries (s .args .plan .now) (s .args .table .now) (s .args .saved .now) (s .pre .0) (s .args .row .now) (s .pre .1) (networkOf (n .result)) (q .result) (n .ensures .0) (q .ensures))
+    (n .ensures .2, omega (arith, c .before .before .allowance .ensures), carries (s .args .plan .now) (s .args .table .now) (s .args .saved .now) (s .pre .0) (s .args .row .now) (s .pre .1) (tree (terminalsOf (n .result))) (q .result) (stands-tree _ (n .result) (n .ensures .0) (n .ensures .3) (n .ensures .2)) (q .ensures))
 
 with-earlier-requires : tie.Need-with-earlier-requires
 with-earlier-requires c κs =
