@@ -18,7 +18,7 @@ use Rattle.tables.specs.Tables.{rating, AcceptedTable}
 use Rattle.tables.proofs.Theorems.{rating-range}
 use Rattle.plan.specs.Plans.{WellFormed, planOf}
 use Rattle.plan.proofs.Verdicts.{accepted-means}
-use Rattle.plan.specs.Weights.{weightsOf, exactOf}
+use Rattle.plan.specs.Weights.{weightsOf, exactAmong}
 use Rattle.plan.proofs.Accepted.{plan-valid, plan-links, plan-nodes}
 use Rattle.plan.proofs.Weights.{unitsIn, plan-units, plan-total}
 use Rattle.causes.specs.declared.CallCause.{CallCause}
@@ -29,7 +29,7 @@ use Rattle.causes.proofs.Laws.{call-number-range, zero-accepted}
 use Rattle.answers.specs.Answers.{withFigure, Holds}
 use Rattle.answers.proofs.Laws.{written}
 use Rattle.desk.specs.Outcomes.{twos, Outcome, unless}
-use Rattle.desk.specs.Answers.{signed, Encloses, Narrow, Marked, Full, Refusal}
+use Rattle.desk.specs.Answers.{signed, EnclosesAmong, Narrow, Marked, Full, Refusal}
 
 -- ---- accepted or refused
 
@@ -74,10 +74,9 @@ module _ (plan table after : List ℕ) (f : Figure) (holds : Holds after f) wher
   abbrev ws : List Weighted
   ws = weightsOf (rating table) plan
 
-  pub encloses-read : AcceptedTable table → (f .low * total ws ≤ S * sum (planOf (rating table) plan .nodes) ws []) × (S * sum (planOf (rating table) plan .nodes) ws [] ≤ f .high * total ws)
-      → Encloses plan table after
-  unfolding exactOf
-  encloses-read fine h =
+  pub encloses-read : (cs : List ℕ) → AcceptedTable table → (f .low * total ws ≤ S * sum cs ws []) × (S * sum cs ws [] ≤ f .high * total ws) → EnclosesAmong cs plan table after
+  unfolding exactAmong
+  encloses-read cs fine h =
       let all = plan-total plan (rating table) (rating-range table fine) in
       record { low = rw (holds .low, ← all) (h .0); high = rw (holds .high, ← all) (h .1) }
 

@@ -22,7 +22,7 @@ use Rattle.tables.specs.Tables.{rating, AcceptedTable}
 use Rattle.tables.proofs.Theorems.{rating-range}
 use Rattle.plan.specs.Plans.{WellFormed, sizeN, sizeM, verdict, planOf}
 use Rattle.plan.proofs.Verdicts.{accepted-means}
-use Rattle.plan.specs.Weights.{exactOf, lengths}
+use Rattle.plan.specs.Weights.{exactAmong, exactOf, lengths}
 use Rattle.plan.proofs.Accepted.{plan-links, plan-nodes}
 use Rattle.plan.proofs.Weights.{plan-enclosed, plan-units, plan-total}
 use Rattle.causes.specs.declared.CallVerdict.{CallVerdict}
@@ -140,7 +140,7 @@ module _ (first second table : List ℕ) (limit : ℕ) (b : List ℕ) where
 
     -- demand 2: low × D × E ≤ S × (N × E − M × D) ≤ high × D × E
     pub difference-encloses : ((low *ℤ pos (D * E)) ≤ℤ (pos S *ℤ exactly)) × ((pos S *ℤ exactly) ≤ℤ (high *ℤ pos (D * E)))
-    unfolding exactOf
+    unfolding exactAmong
     difference-encloses =
         rw (difference-numbers .low, difference-numbers .high, ← plan-total first (rating table) chances, ← plan-total second (rating table) chances) (rule.difference-enclosure g h gv hv limit (plan-enclosed first (rating table) chances) (plan-enclosed second (rating table) chances))
 

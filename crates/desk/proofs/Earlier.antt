@@ -58,7 +58,7 @@ module _ (plan table : List ℕ) (fine : AcceptedTable table) (well : WellFormed
 
     -- demand 2: low × S^(m+2L) ≤ S × N ≤ high × S^(m+2L), also when steps run out
     pub carried-encloses : Encloses plan table after
-    carried-encloses = encloses-read plan table after f numbers fine (sitting-enclosure g valid s good-work (x .limit) (plan-enclosed plan (rating table) (rating-range table fine)))
+    carried-encloses = encloses-read plan table after f numbers (g .nodes) fine (sitting-enclosure g valid s good-work (x .limit) (plan-enclosed plan (rating table) (rating-range table fine)))
 
     pub carried-range : (lowIn after ≤ highIn after) × (highIn after ≤ S)
     carried-range = omega (arith, numbers, range)

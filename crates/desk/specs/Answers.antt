@@ -11,8 +11,8 @@ use lib.Signed.{_≤ℤ_}
 use Rattle.rounding.specs.Rounding.{S}
 use Rattle.reliability.specs.declared.Difference.{Difference}
 use Rattle.tables.specs.Tables.{rating}
-use Rattle.plan.specs.Plans.{sizeN, sizeM}
-use Rattle.plan.specs.Weights.{exactOf, lengths}
+use Rattle.plan.specs.Plans.{sizeN, sizeM, planOf}
+use Rattle.plan.specs.Weights.{exactAmong, lengths}
 use Rattle.answers.specs.Answers.{lowIn, highIn, stepsIn, finishedIn}
 use Rattle.desk.specs.Outcomes.{Outcome}
 
@@ -36,10 +36,14 @@ pub record LiesWithinSigned (second first : List ℕ) : Type 0 where
   pub low : signed (lowIn first) ≤ℤ signed (lowIn second)
   pub high : signed (highIn second) ≤ℤ signed (highIn first)
 
--- a pair encloses the exact reliability of a plan under a table, N over S^(m+2L)
-pub record Encloses (plan table b : List ℕ) : Type 0 where
-  pub low : lowIn b * S ^ (sizeM plan + 2 * lengths plan) ≤ S * exactOf (rating table) plan
-  pub high : S * exactOf (rating table) plan ≤ highIn b * S ^ (sizeM plan + 2 * lengths plan)
+-- a pair encloses the exact chance that the nodes cs of a plan under a table are connected, N over S^(m+2L)
+pub record EnclosesAmong (cs plan table b : List ℕ) : Type 0 where
+  pub low : lowIn b * S ^ (sizeM plan + 2 * lengths plan) ≤ S * exactAmong cs (rating table) plan
+  pub high : S * exactAmong cs (rating table) plan ≤ highIn b * S ^ (sizeM plan + 2 * lengths plan)
+
+-- the exact reliability: that of all nodes
+abbrev pub Encloses : (plan table b : List ℕ) → Type 0
+Encloses plan table b = EnclosesAmong (planOf (rating table) plan .nodes) plan table b
 
 -- a finished pair is at most 2m + 4n + 4L wide
 abbrev pub Narrow : (plan b : List ℕ) → Type 0

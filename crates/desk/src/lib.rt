@@ -23,15 +23,22 @@ pub extern "C" fn check(plan: &[u8]) -> u64
 }
 
 #[no_mangle]
-pub extern "C" fn figure(plan: &[u8], table: &[u8], limit: u64, answer: &mut [u8]) -> u64
-    ensures { λ r. ⌜ r ≡ figureOutcome (now (plan .entry)) (now (table .entry)) limit (now (answer .entry)) .returned ⌝ }
-    ensures { λ _. ⌜ now (answer .exit) ≡ figureOutcome (now (plan .entry)) (now (table .entry)) limit (now (answer .entry)) .buffer ⌝ }
+pub extern "C" fn figure(
+    plan: &[u8],
+    table: &[u8],
+    choice: u64,
+    limit: u64,
+    answer: &mut [u8],
+) -> u64
+    ensures { λ r. ⌜ r ≡ figureOutcome (now (plan .entry)) (now (table .entry)) choice limit (now (answer .entry)) .returned ⌝ }
+    ensures { λ _. ⌜ now (answer .exit) ≡ figureOutcome (now (plan .entry)) (now (table .entry)) choice limit (now (answer .entry)) .buffer ⌝ }
 {
-    let v = refusals::figure_verdict(plan, table, limit, answer.len());
+    let v = refusals::chosen_verdict(plan, table, choice, limit, answer.len());
     if let CallVerdict::Refused(_) = v {
         return causes::call_returned(v);
     }
-    let f = factoring::work(loading::network_of(plan, table), limit);
+    let net = loading::network_of(plan, table).with_chosen(choice as u32);
+    let f = factoring::work(net, limit);
     answers::put_answer(answer, f.low, f.high, f.steps, f.finished);
     0
 }

@@ -1,8 +1,8 @@
 -- The invariant, kept by what a network becomes.
-use Prim.Native.Nat.{ℕ, zero, suc, _-_, _<_}
+use Prim.Native.Nat.{ℕ, _-_, _<_}
 use mathlib.Core.Path.{_≡_, sym, ap, ap₂, subst, _∙_}
 use mathlib.Core.Logic.{⊎-elim}
-use mathlib.Core.List.{List, [], _∷_, List·Memᴰ}
+use mathlib.Core.List.{List, List·Memᴰ}
 use mathlib.Core.Bool.{Bool, true, false, cond, not, _&&_, or-comm}
 use native.Mathlib.Omega.{arith}
 use lib.Dec.{eqb}
@@ -11,17 +11,16 @@ use borrow.Author.Tests.{eqb-false, ne-eqb}
 use Rattle.reliability.specs.declared.Step.{Step}
 use Rattle.reliability.specs.declared.Step.the-variants.{End, Series}
 use Rattle.reliability.specs.declared.Link.{Link}
-use Rattle.reliability.specs.Networks.{Ascending, Proper}
+use Rattle.reliability.specs.Networks.{Proper}
 use Rattle.reliability.specs.Rule.{isLoop, across}
 use Rattle.reliability.specs.Terminals.{Terminals, Chosen, among, has as listing, next, endLeft, seriesLeft, soundLeft, brokenLeft, leaves}
 use Rattle.reliability.proofs.Validity.{deleted-valid}
 use Rattle.reliability.proofs.Steps.{Leg, AtSeries}
-use Rattle.reliability.proofs.Chosen.{has-mem}
 use Rattle.reliability.proofs.TerminalSteps.{Fits, fits, sound-terminals}
 use Rattle.reliability.proofs.Unrolled.{below-factored}
 use Rattle.bits.specs.Members.{members}
-use Rattle.search.specs.Searches.{pick, from, nodesIn, touching, Incidence}
-use Rattle.search.proofs.Sets.{has, has-none, has-without, has-below, from-mem, mem-has, listed-has}
+use Rattle.search.specs.Searches.{touching, Incidence}
+use Rattle.search.proofs.Sets.{has, has-none, has-without, has-below, mem-has, has-mem, nodes-ascending}
 use Rattle.parts.specs.Tallies.{Written}
 use Rattle.parts.proofs.Laws.{counted, taken, added, turned}
 use Rattle.network.specs.declared.Network.{Network}
@@ -29,27 +28,15 @@ use Rattle.network.specs.Places.{networkOf, terminalsOf, linksOf, nodesO
 use Rattle.network.proofs.Picks.{rowAt, allRows, link-at, index-within, deleted-links, built-free}
 use Rattle.network.proofs.Ends.{bounded}
 
--- the nodes of a set are in ascending order
-pick-ascending : (bs : List Bool) (i k : ℕ) → Ascending (pick bs (from i k))
-unfolding pick from Ascending
-pick-ascending [] i k = tt
-pick-ascending (b ∷ bs) i zero = tt
-pick-ascending (true ∷ bs) i (suc k) = (λ u m. omega (arith, from-mem bs (suc i) k m .2), pick-ascending bs (suc i) k)
-pick-ascending (false ∷ bs) i (suc k) = pick-ascending bs (suc i) k
-
--- a node of a set is listed
-pub listed : (s v : ℕ) → has s v ≡ true → List·Memᴰ v (nodesIn s)
-listed s v h = has-mem v (nodesIn s) (listed-has s v ∙ h)
-
 -- the chosen nodes of a network by value are nodes, each named once
 pub chosen-of : (n : Network) → Invariant n → Chosen (terminalsOf n)
-chosen-of n holds = record { valid = holds .valid; ascending = pick-ascending (members (n .chosen)) 0 64; nodes = λ v m. listed (n .nodes) v (holds .inside v (mem-has (n .chosen) v m)) }
+chosen-of n holds = record { valid = holds .valid; ascending = nodes-ascending (n .chosen); nodes = λ v m. has-mem (n .nodes) v (holds .inside v (mem-has (n .chosen) v m)) }
 
 -- r stands for g, which is valid, and its tallies are right
 pub stands : (r : Network) {g : Terminals} → terminalsOf r ≡ g → Chosen g → Incidence (r .at) (r .alive) (r .a) (r .b) → (terminalsOf r ≡ g) × Invariant r
 stands r e valid tallies =
     let own = subst Chosen (sym e) valid in
-    (e, record { valid = own .valid; inside = λ v h. mem-has (r .nodes) v (own .nodes v (listed (r .chosen) v h)); tallies = tallies })
+    (e, record { valid = own .valid; inside = λ v h. mem-has (r .nodes) v (own .nodes v (has-mem (r .chosen) v h)); tallies = tallies })
 
 module _ (n : Network) (holds : Invariant n) where
   abbrev g : Terminals

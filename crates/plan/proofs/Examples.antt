@@ -13,7 +13,7 @@ use Rattle.reliability.specs.Rule.{deleteAt}
 use Rattle.tables.specs.Tables.{valueIn, rating}
 use Rattle.tables.proofs.Examples.{bytes, whole}
 use Rattle.plan.specs.Plans.{rated, linkVerdict, linksVerdict, verdict, returned, linkIn, planOf}
-use Rattle.plan.specs.Weights.{weightIn, exactOf, lengthsAmong, lengths, otherLengths}
+use Rattle.plan.specs.Weights.{weightIn, exactAmong, exactOf, lengthsAmong, lengths, otherLengths}
 use Rattle.search.specs.Searches.{from}
 
 pub record Row : Type 0 where
@@ -86,10 +86,10 @@ unfolding mixed lengthsAmong filter deleteAt from rated
 mixed-lengths = (refl, refl, refl)
 
 pub mixed-exact : exactOf T mixed ≡ 1000000000 ^ 4 - 500000000 * (1000000000 ^ 3 - 1000000000 * 999950000 ^ 2)
-unfolding mixed exactOf weightIn sum connected every label merge linkIn from rated T
+unfolding mixed exactAmong weightIn sum connected every label merge linkIn from rated T
 mixed-exact = refl
 
 -- two nodes, and between them a link of 51,100 metres by a buyer's table whose last value is 800,000,001
 pub buyers-exact : exactOf (rating (whole 800000001)) (2 ∷ 0 ∷ 1 ∷ 0 ∷ 0 ∷ 1 ∷ 255 ∷ 1 ∷ 0 ∷ 128 ∷ []) ≡ 800000001 * 999950000 ^ 2
-unfolding exactOf weightIn sum connected every label merge linkIn from rated rating valueIn bytes whole
+unfolding exactAmong weightIn sum connected every label merge linkIn from rated rating valueIn bytes whole
 buyers-exact = refl

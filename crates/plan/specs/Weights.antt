@@ -35,9 +35,13 @@ weightIn rating b i =
 abbrev pub weightsOf : (rating : ℕ → ℕ) → List ℕ → List Weighted
 weightsOf rating b = map (weightIn rating b) (from 0 (sizeM b))
 
--- N: the exact reliability is N over S to the power m + 2L (plan-total in proofs/Weights.antt)
-unfoldable pub exactOf : (rating : ℕ → ℕ) → List ℕ → ℕ
-exactOf rating b = sum (planOf rating b .nodes) (weightsOf rating b) []
+-- N: the exact chance that the nodes cs are connected is N over S to the power m + 2L (plan-total in proofs/Weights.antt)
+unfoldable pub exactAmong : List ℕ → (rating : ℕ → ℕ) → List ℕ → ℕ
+exactAmong cs rating b = sum cs (weightsOf rating b) []
+
+-- of all nodes: the exact reliability
+abbrev pub exactOf : (rating : ℕ → ℕ) → List ℕ → ℕ
+exactOf rating b = exactAmong (planOf rating b .nodes) rating b
 
 abbrev pub isLength : Rated → Bool
 isLength (Units v) = false

@@ -122,6 +122,17 @@ unfolding from Ascending
 ascending-from i zero = tt
 ascending-from i (suc k) = (λ u m. omega (arith, from-least (suc i) k m), ascending-from (suc i) k)
 
+-- the nodes of a set are in ascending order
+pick-ascending : (bs : List Bool) (i k : ℕ) → Ascending (pick bs (from i k))
+unfolding pick from Ascending
+pick-ascending [] i k = tt
+pick-ascending (b ∷ bs) i zero = tt
+pick-ascending (true ∷ bs) i (suc k) = (λ u m. omega (arith, from-mem bs (suc i) k m .2), pick-ascending bs (suc i) k)
+pick-ascending (false ∷ bs) i (suc k) = pick-ascending bs (suc i) k
+
+pub nodes-ascending : (s : ℕ) → Ascending (nodesIn s)
+nodes-ascending s = pick-ascending (members s) 0 64
+
 -- the nodes of a set are in it
 pub mem-has : (s u : ℕ) → List·Memᴰ u (nodesIn s) → has s u ≡ true
 mem-has s u m =

@@ -7,7 +7,7 @@ use lib.Seq.{sets}
 use Rattle.ratings.specs.Ratings.{T}
 use Rattle.reliability.specs.declared.Figure.{Figure}
 use Rattle.reliability.specs.Networks.{piecesOf}
-use Rattle.reliability.specs.Rule.{Tree, run}
+use Rattle.reliability.specs.Rule.{Tree, run, figure}
 use Rattle.reliability.specs.Terminals.{figure as figureOf}
 use Rattle.network.specs.Places.{terminalsOf}
 use Rattle.loading.proofs.Stands.{stands-tree}
