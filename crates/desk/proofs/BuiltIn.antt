@@ -5,12 +5,14 @@ use mathlib.Core.List.{List, []}
 use Rattle.tables.specs.Tables.{rating, sized, wellRated}
 use Rattle.refusals.specs.Refusals.{tabled}
 use Rattle.sitting_desk.specs.Outcome.{sittingOutcome}
-use Rattle.desk.specs.Outcomes.{figureOutcome, importanceOutcome, differenceOutcome}
+use Rattle.desk.specs.Outcomes.{figureOutcome, allNodes, allFigureOutcome, importanceOutcome, differenceOutcome}
+use Rattle.desk.proofs.AllNodes.{figure-of-all}
 use Rattle.desk.specs.BuiltIn.{builtInFigure, builtInImportance, builtInDifference, builtInSitting}
 
-pub figure-built-in : (plan : List ℕ) (limit : ℕ) (b : List ℕ) → figureOutcome plan [] limit b ≡ builtInFigure plan limit b
-unfolding figureOutcome builtInFigure rating tabled sized wellRated
-figure-built-in plan limit b = refl
+-- of all nodes
+pub figure-built-in : (plan : List ℕ) (limit : ℕ) (b : List ℕ) → figureOutcome plan [] (allNodes plan) limit b ≡ builtInFigure plan limit b
+unfolding allFigureOutcome builtInFigure rating tabled sized wellRated
+figure-built-in plan limit b = figure-of-all plan [] limit b
 
 pub importance-built-in : (plan : List ℕ) (place limit : ℕ) (b : List ℕ) → importanceOutcome plan [] place limit b ≡ builtInImportance plan place limit b
 unfolding importanceOutcome builtInImportance rating tabled sized wellRated

@@ -1,29 +1,34 @@
 -- The three demands on a figure, over what the call returns and the numbers that it leaves in the answer buffer.
-use Prim.Native.Nat.{ℕ, _+_, _≤_, min}
-use mathlib.Core.Path.{_≡_, ap, _∙_}
+use Prim.Native.Nat.{ℕ, _+_, _^_, _≤_, _<_, min}
+use mathlib.Core.Path.{_≡_, ap, _∙_, subst}
 use mathlib.Core.List.{List}
 use mathlib.Core.Logic.{_⊎_, _↔_, Iff·trans}
-use mathlib.Core.Bool.{cond}
+use mathlib.Core.Bool.{true, cond}
 use native.Mathlib.Omega.{arith}
 use lib.ListN.{length}
 use Rattle.rounding.specs.Rounding.{S}
+use Rattle.bits.specs.Members.{members, howMany}
 use Rattle.reliability.specs.declared.Figure.{Figure}
-use Rattle.reliability.specs.Networks.{Network, Valid}
-use Rattle.reliability.specs.Rule.{figure, needed}
-use Rattle.reliability.proofs.Theorems as rule
+use Rattle.reliability.specs.Rule.{bounded}
+use Rattle.reliability.specs.Terminals.{Terminals, Chosen, figure, needed}
+use Rattle.reliability.proofs.TerminalTheorems as rule
+use Rattle.search.specs.Searches.{nodesIn}
+use Rattle.search.proofs.Sets.{has-below, mem-has, nodes-ascending}
+use Rattle.search.proofs.Marks.{length-places}
 use Rattle.tables.specs.Tables.{rating, AcceptedTable}
 use Rattle.tables.proofs.Theorems.{rating-range}
-use Rattle.plan.specs.Plans.{WellFormed, verdict, planOf}
+use Rattle.plan.specs.Plans.{sizeN, WellFormed, verdict, planOf}
 use Rattle.plan.proofs.Verdicts.{accepted-means, zero-means}
+use Rattle.plan.proofs.Accepted.{within}
 use Rattle.plan.proofs.Weights.{plan-enclosed, plan-lengths}
 use Rattle.causes.specs.declared.CallVerdict.{CallVerdict}
 use Rattle.causes.specs.declared.CallVerdict.the-variants.{Accepted}
 use Rattle.causes.specs.Causes.{callReturned}
-use Rattle.refusals.specs.Refusals.{figureVerdict}
-use Rattle.refusals.proofs.Calls.{figure-means}
+use Rattle.refusals.specs.Refusals.{chosenVerdict}
+use Rattle.refusals.proofs.Calls.{chosen-accepts}
 use Rattle.answers.specs.Answers.{withFigure, lowIn, highIn, stepsIn, finishedIn, Holds}
-use Rattle.desk.specs.Outcomes.{Outcome, checkOutcome, figureOutcome}
-use Rattle.desk.specs.Answers.{Encloses, Narrow, LiesWithin, Marked, Full, Refusal}
+use Rattle.desk.specs.Outcomes.{Outcome, checkOutcome, chosenBy, figureOutcome}
+use Rattle.desk.specs.Answers.{EnclosesAmong, Narrow, LiesWithin, Marked, Full, Refusal}
 use Rattle.desk.proofs.Answers.{full-or-refused, returned-of, zero-of, valid-of, read-back, encloses-read, width-read, marked}
 
 -- demand 1: check accepts a plan that meets none of the causes 1 to 6, and no other
@@ -31,15 +36,23 @@ pub check-accepted : (plan : List ℕ) → checkOutcome plan ≡ 0 ↔ WellForme
 unfolding checkOutcome
 check-accepted plan = Iff·trans (zero-means (verdict plan)) (accepted-means plan)
 
-module _ (plan table : List ℕ) (limit : ℕ) (b : List ℕ) where
+-- the nodes that an accepted choice names are the plan's, each named once
+pub choice-valid : (plan table : List ℕ) (choice : ℕ) → AcceptedTable table → WellFormed plan → choice < 2 ^ sizeN plan → Chosen (chosenBy choice (planOf (rating table) plan))
+choice-valid plan table choice fine well few = record {
+  valid = valid-of plan table fine well;
+  ascending = nodes-ascending choice;
+  nodes = λ v m. let below = has-below choice (sizeN plan) v few (mem-has choice v m) in within 0 (sizeN plan) v (omega arith) (omega arith);
+}
+
+module _ (plan table : List ℕ) (choice limit : ℕ) (b : List ℕ) where
   abbrev o : Outcome
-  o = figureOutcome plan table limit b
+  o = figureOutcome plan table choice limit b
 
   abbrev v : CallVerdict
-  v = figureVerdict plan table limit (length b)
+  v = chosenVerdict plan table choice limit (length b)
 
-  abbrev g : Network
-  g = planOf (rating table) plan
+  abbrev g : Terminals
+  g = chosenBy choice (planOf (rating table) plan)
 
   abbrev f : Figure
   f = figure g limit
@@ -47,7 +60,7 @@ module _ (plan table : List ℕ) (limit : ℕ) (b : List ℕ) where
   -- demand 1: either a full answer or a numbered refusal with the buffer untouched
   pub figure-full-or-refused : Full o b (withFigure f b) ⊎ Refusal o b
   unfolding figureOutcome
-  figure-full-or-refused = full-or-refused f b v (λ e. figure-means plan table limit (length b) .0 e .1)
+  figure-full-or-refused = full-or-refused f b v (λ e. chosen-accepts plan table choice limit (length b) .0 e .1)
 
   -- demand 1: the number is that of the first cause in the table's order, 0 if there is none
   pub figure-returned : o .returned ≡ callReturned v
@@ -59,8 +72,8 @@ module _ (plan table : List ℕ) (limit : ℕ) (b : List ℕ) where
   figure-zero = zero-of v figure-returned
 
   -- demand 1: a call that meets none of its rows is accepted, and no other
-  pub figure-accepted : o .returned ≡ 0 ↔ (limit ≤ 1000000) × (16 ≤ length b) × AcceptedTable table × WellFormed plan
-  figure-accepted = Iff·trans figure-zero (figure-means plan table limit (length b))
+  pub figure-accepted : o .returned ≡ 0 ↔ (limit ≤ 1000000) × (16 ≤ length b) × AcceptedTable table × WellFormed plan × (0 < choice) × (choice < 2 ^ sizeN plan)
+  figure-accepted = Iff·trans figure-zero (chosen-accepts plan table choice limit (length b))
 
   -- a call that returned 0, and the buffer that it left
   module _ (zero : o .returned ≡ 0) where
@@ -73,8 +86,8 @@ module _ (plan table : List ℕ) (limit : ℕ) (b : List ℕ) where
     well : WellFormed plan
     well = figure-accepted .0 zero .3
 
-    valid : Valid g
-    valid = valid-of plan table fine well
+    valid : Chosen g
+    valid = choice-valid plan table choice fine well (figure-accepted .0 zero .5)
 
     range : (f .low ≤ f .high) × (f .high ≤ S)
     range = (rule.low-high g valid limit, rule.high-range g valid limit)
@@ -84,9 +97,9 @@ module _ (plan table : List ℕ) (limit : ℕ) (b : List ℕ) where
     figure-numbers =
         read-back f b figure-full-or-refused zero (omega (arith, range, figure-accepted .0 zero .0, rule.steps-taken g limit))
 
-    -- demand 2: low × S^(m+2L) ≤ S × N ≤ high × S^(m+2L), also when steps run out
-    pub figure-encloses : Encloses plan table after
-    figure-encloses = encloses-read plan table after f figure-numbers fine (rule.enclosure g valid limit (plan-enclosed plan (rating table) (rating-range table fine)))
+    -- demand 2: low × S^(m+2L) ≤ S × N ≤ high × S^(m+2L), also when steps run out; N is that of the chosen nodes
+    pub figure-encloses : EnclosesAmong (nodesIn choice) plan table after
+    figure-encloses = encloses-read plan table after f figure-numbers (nodesIn choice) fine (rule.enclosure g valid limit (plan-enclosed plan (rating table) (rating-range table fine)))
 
     -- from 0 to S, low no higher than high
     pub figure-range : (lowIn after ≤ highIn after) × (highIn after ≤ S)
@@ -108,8 +121,13 @@ module _ (plan table : List ℕ) (limit : ℕ) (b : List ℕ) where
     pub figure-narrow : finishedIn after ≡ 1 → highIn after ≤ lowIn after + 512
     figure-narrow done = omega (arith, figure-width done, well .nodes, well .links, plan-lengths plan)
 
+    -- one chosen node: S, S, no step, finished, whatever the links
+    pub figure-of-one : howMany (members choice) ≡ 1 → Holds after (bounded (λ d. S) 0 true)
+    figure-of-one one = subst (Holds after) (rule.one-chosen g valid limit (omega (arith, length-places choice))) figure-numbers
+
 -- demand 3: whichever two accepted limits, the second no smaller than the first, the second pair lies within the first
-pub figure-nesting : (plan table : List ℕ) (limit larger : ℕ) (b c : List ℕ) → figureOutcome plan table limit b .returned ≡ 0 → figureOutcome plan table larger c .returned ≡ 0
-    → limit ≤ larger → LiesWithin (figureOutcome plan table larger c .buffer) (figureOutcome plan table limit b .buffer)
-figure-nesting plan table limit larger b c p q h =
-    omega (arith, figure-numbers plan table limit b p, figure-numbers plan table larger c q, rule.nesting (planOf (rating table) plan) (valid plan table limit b p) limit larger h)
+pub figure-nesting : (plan table : List ℕ) (choice limit larger : ℕ) (b c : List ℕ) → figureOutcome plan table choice limit b .returned ≡ 0 → figureOutcome plan table choice larger c .returned ≡ 0
+    → limit ≤ larger → LiesWithin (figureOutcome plan table choice larger c .buffer) (figureOutcome plan table choice limit b .buffer)
+figure-nesting plan table choice limit larger b c p q h =
+    omega (arith, figure-numbers plan table choice limit b p, figure-numbers plan table choice larger c q,
+    rule.nesting (chosenBy choice (planOf (rating table) plan)) (valid plan table choice limit b p) limit larger h)

@@ -2,6 +2,7 @@ pub mod TwosComplement
 pub mod Answers
 pub mod BuiltIn
 pub mod Demands
+pub mod AllNodes
 pub mod Importances
 pub mod Differences
 pub mod Sittings

@@ -96,7 +96,7 @@ network-of-requires-2 c κs =
 difference-requires : tie.Need-difference-requires
 difference-requires c κs =
     let k = asks (c .before .before .before .before .before) in
-    (c .before .network-of .ensures .2, c .network-of2 .ensures .2, omega (arith, k .0))
+    (c .before .network-of .ensures .2, c .network-of2 .ensures .2, omega (arith, k .0), c .before .network-of .ensures .3, c .network-of2 .ensures .3)
 
 bits-of-requires : tie.Need-bits-of-requires
 bits-of-requires c κs = search needs

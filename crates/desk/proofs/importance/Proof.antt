@@ -61,7 +61,7 @@ importance-requires c κs =
     let at = built-used (c .network-of .result) (sizeM (a .plan .now)) (c .network-of .ensures .1) in
     let within = k .4 in
     let some : 0 < sizeM (a .plan .now) = omega arith in
-    (c .network-of .ensures .2, search at, omega (arith, k .0))
+    (c .network-of .ensures .2, search at, omega (arith, k .0), c .network-of .ensures .3)
 
 put-answer-requires : tie.Need-put-answer-requires
 put-answer-requires c κs = asks (c .before .before .before) .1
