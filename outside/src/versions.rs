@@ -12,7 +12,7 @@ pub type Version = fn(&Plan, u64) -> [u8; ANSWER];
 pub fn library(plan: &Plan, limit: u64) -> [u8; ANSWER] {
     let (plan, table) = (&plan.bytes(), &plan.table.bytes());
     let mut answer = [0; ANSWER];
-    let call = Call::Figure { plan, limit }.under(table);
+    let call = Call::figure(plan, limit).under(table);
     assert_eq!(desk::made(call, &mut answer), 0);
     answer
 }

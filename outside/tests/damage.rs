@@ -18,7 +18,7 @@ fn tried(file: &[u8], good: &[u8], place: u64, limit: u64) -> bool {
     let accepted = held(&Call::Check { plan: file }, 0).is_ok();
     let plan = file;
     let answers = [
-        Call::Figure { plan, limit },
+        Call::figure(plan, limit),
         Call::Importance { plan, place, limit },
         Call::Difference {
             a: file,

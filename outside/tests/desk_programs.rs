@@ -31,7 +31,11 @@ fn record_of_call(call: &Under<Call>, buffer: &[u8]) -> Vec<u8> {
     let none: &[u8] = &[];
     let (which, limit, place, a, b) = match call.asked {
         Call::Check { plan } => (0, 0, 0, plan, none),
-        Call::Figure { plan, limit } => (1, limit, 0, plan, none),
+        Call::Figure {
+            plan,
+            choice,
+            limit,
+        } => (1, limit, choice, plan, none),
         Call::Importance { plan, place, limit } => (2, limit, place, plan, none),
         Call::Difference { a, b, limit } => (3, limit, 0, a, b),
     };
@@ -43,7 +47,7 @@ fn any_call<'a>(random: &mut Random, plan: &'a [u8], good: &'a [u8]) -> Call<'a>
     let place = random.up_to(10);
     match random.below(5) {
         0 => Call::Check { plan },
-        1 => Call::Figure { plan, limit },
+        1 => Call::figure(plan, limit),
         2 => Call::Importance { plan, place, limit },
         3 => Call::Difference {
             a: plan,
@@ -143,7 +147,7 @@ fn the_largest_plans_under_a_memory_checker() {
         .flat_map(|(plan, b)| {
             [
                 (Call::Check { plan }, 0),
-                (Call::Figure { plan, limit }, 16),
+                (Call::figure(plan, limit), 16),
                 (
                     Call::Importance {
                         plan,

@@ -32,7 +32,7 @@ fn the_worst_chain_of_splits() {
     let plan = &Plan::deepest().bytes();
     let limit = MOST_STEPS;
     on_a_small_stack(&Call::Check { plan });
-    on_a_small_stack(&Call::Figure { plan, limit });
+    on_a_small_stack(&Call::figure(plan, limit));
     on_a_small_stack(&Call::Importance {
         plan,
         place: 63,
@@ -52,7 +52,7 @@ fn the_worst_chain_of_splits_under_a_table() {
     let plan = Plan::deepest().with_lengths(&mut random, 10);
     let (plan, table) = (&plan.bytes(), &Table::telling().bytes());
     let (a, b, place, limit) = (plan, plan, 63, MOST_STEPS);
-    on_a_small_stack(Call::Figure { plan, limit }.under(table));
+    on_a_small_stack(Call::figure(plan, limit).under(table));
     on_a_small_stack(Call::Importance { plan, place, limit }.under(table));
     on_a_small_stack(Call::Difference { a, b, limit }.under(table));
     let mut saved = NOTHING.to_vec();
@@ -72,7 +72,7 @@ fn sixty_four_loops_and_parallels() {
     for ends in [[0, 0], [0, 1]] {
         let plan = &Plan::alike(2, S / 2, &[ends; 64]).bytes();
         let limit = 0;
-        on_a_small_stack(&Call::Figure { plan, limit });
+        on_a_small_stack(&Call::figure(plan, limit));
         on_a_small_stack(&Call::Importance {
             plan,
             place: 9,
@@ -173,7 +173,7 @@ fn eight_threads_at_once() {
         .flat_map(|((plan, b), table)| {
             [
                 Call::Check { plan },
-                Call::Figure { plan, limit },
+                Call::figure(plan, limit),
                 Call::Importance { plan, place, limit },
                 Call::Difference { a: plan, b, limit },
             ]

@@ -49,7 +49,7 @@ fn lines(a: &[u8], b: &[u8], limit: u64) -> String {
 }
 
 fn lines_under(table: &[u8], a: &[u8], b: &[u8], limit: u64) -> String {
-    let figure = |plan| Call::Figure { plan, limit }.under(table);
+    let figure = |plan| Call::figure(plan, limit).under(table);
     let difference = Call::Difference { a, b, limit }.under(table);
     [
         line("A", figure(a)),
@@ -212,7 +212,7 @@ fn the_mesh_in_sittings() {
             };
             let sat = first.outcome(16, WORK).unwrap();
             let limit = total;
-            let one = line("so far", &Call::Figure { plan, limit });
+            let one = line("so far", &Call::figure(plan, limit));
             let words: [&Path; 3] = [&file, &saved, Path::new("compare")];
             let (words, both) = match total {
                 4_000 => (&words[..], one.replace("so far", "in one run")),

@@ -320,7 +320,7 @@ fn of_figure() {
     alone_and_in_pairs(&faults, |q| {
         let plan = &q.a.bytes();
         let limit = q.limit;
-        returned(Call::Figure { plan, limit }, q)
+        returned(Call::figure(plan, limit), q)
     });
 }
 
@@ -374,9 +374,9 @@ fn check_has_rows_1_to_6_alone() {
         let place = plan.links.len() as u64;
         let plan = &plan.bytes();
         let limit = 1_000_001;
-        assert_eq!(returned(Call::Figure { plan, limit }, 16), Err(7));
+        assert_eq!(returned(Call::figure(plan, limit), 16), Err(7));
         let limit = 1_000_000;
-        assert_eq!(returned(Call::Figure { plan, limit }, 15), Err(9));
+        assert_eq!(returned(Call::figure(plan, limit), 15), Err(9));
         let at = Call::Importance { plan, place, limit };
         assert_eq!(returned(at, 16), Err(8));
         assert_eq!(returned(Call::Check { plan }, 16), Ok(()));
