@@ -45,6 +45,30 @@ fn the_worst_chain_of_splits() {
     });
 }
 
+/// The same with some nodes chosen: two of the ring, its ends and the path's, one behind the other, all but some.
+#[test]
+fn the_worst_chain_of_splits_with_chosen_nodes() {
+    let plan = &Plan::deepest().bytes();
+    let (ring, path): (u64, u64) = (0x3ff, 0xffff_fc00);
+    for choice in [
+        3,
+        0x201,
+        1 | 1 << 31,
+        ring,
+        path,
+        !1 & ring,
+        !0x100 & (ring | path),
+    ] {
+        for limit in [40, 4_000] {
+            on_a_small_stack(&Call::Figure {
+                plan,
+                choice,
+                limit,
+            });
+        }
+    }
+}
+
 /// The same with each link a length, under a buyer's table; set aside and carried on too.
 #[test]
 fn the_worst_chain_of_splits_under_a_table() {
@@ -174,6 +198,11 @@ fn eight_threads_at_once() {
             [
                 Call::Check { plan },
                 Call::figure(plan, limit),
+                Call::Figure {
+                    plan,
+                    choice: 0b1000_0010,
+                    limit,
+                },
                 Call::Importance { plan, place, limit },
                 Call::Difference { a: plan, b, limit },
             ]
