@@ -17,13 +17,15 @@ fn of(nodes: &[u8]) -> u64 {
     nodes.iter().map(|node| 1 << node).sum()
 }
 
-/// A finished answer within so many units of the exact one.
-fn hold_near(plan: &Plan, choice: u64, exact: i64, most: i64) {
+/// An exact figure, which low and high both are.
+fn hold_known(plan: &Plan, choice: u64, exact: i64) {
     let answer = figure_of(plan, choice, MOST_STEPS);
-    assert!(answer.finished && answer.low <= exact && exact <= answer.high);
-    assert!(answer.high - answer.low <= most, "{answer:?}");
+    assert_eq!(
+        (answer.low, answer.high, answer.finished),
+        (exact, exact, true)
+    );
     let sum = Exact::figure_of(plan, choice);
-    assert_eq!(sum.compared(exact), Ordering::Equal, "{answer:?}");
+    assert_eq!(sum.compared(exact), Ordering::Equal);
 }
 
 /// Some of so many nodes.
@@ -145,8 +147,8 @@ fn exact_figures_that_are_known() {
     assert_eq!(exact.compared(750_000_000), Ordering::Equal);
 }
 
-/// Figure 1 of document 003 with one of the values of its example for each link: v1 to v4 are nodes 0 to 3, e3 is the link between 1
-/// and 2, here with another value.
+/// Figure 1 of document 003 with the values of its example, but another for e3, the link between nodes 1 and 2. Its v1 to v4 are
+/// nodes 0 to 3, and its e1 to e5 the links in order.
 fn of_document_003(e3: u32) -> Plan {
     let links = [
         (0, 1, 900_000_000),
@@ -158,8 +160,9 @@ fn of_document_003(e3: u32) -> Plan {
     Plan::new(4, &links)
 }
 
-/// Its table 1, worked out for these values: each pair of nodes, the figures with e3 sound and with e3 broken, and the importance of
-/// e3, which is printed with four digits and is exact with them. Its weights, and their mean, 0.02212, printed with five digits.
+/// Its table 1 for these values: of each pair of nodes the figure with e3 sound and with e3 broken. It prints their difference, the
+/// importance of e3, with four digits, in which all six agree, and are exact; and the mean of the six by its weights, here in tenths,
+/// as 0.02212, in which the five digits agree.
 #[test]
 fn the_example_of_document_003() {
     let rows = [
@@ -176,21 +179,22 @@ fn the_example_of_document_003() {
     let mut weighted = 0;
     for (pair, with, none, printed, tenths) in rows {
         let choice = of(&pair);
-        hold_near(&sound, choice, with, 2);
-        hold_near(&broken, choice, none, 2);
-        hold_near(&without, choice, none, 2);
+        hold_known(&sound, choice, with);
+        hold_known(&broken, choice, none);
+        hold_known(&without, choice, none);
         assert_eq!(with - none, printed * 100_000, "{pair:?}");
         weighted += tenths * (with - none);
     }
     assert_eq!(weighted / 60, 22_123_333);
     let e3 = of_document_003(950_000_000);
     for (pair, with, none, ..) in rows {
-        hold_near(&e3, of(&pair), (95 * with + 5 * none) / 100, 4);
+        hold_known(&e3, of(&pair), (95 * with + 5 * none) / 100);
     }
 }
 
-/// The two-terminal example of document 001, figure (1.4): its drawing is not in our copy. The text gives eight links of one chance and
-/// the polynomial in p; of the simple networks with six nodes and eight links this one alone has it. Nodes 0 and 5 are s and t.
+/// The two-terminal example of document 001, figure (1.4). Its drawing is not in our copy; its text gives eight links, all of chance p,
+/// and a polynomial. Of the simple networks of six nodes and eight links this one alone, but for its names, has that polynomial. Nodes
+/// 0 and 5 are s and t.
 fn of_document_001(p: u32) -> Plan {
     let ends = [
         [0, 1],
@@ -212,13 +216,13 @@ fn polynomial(tenths: i64) -> i64 {
     terms.map(term).iter().sum()
 }
 
-/// To the last of nine digits, for p from 0 to 1 by tenths. Its tree of computation has four leaves, so three splits, as many as are
-/// taken here; the bridge of figure (1.3), whose domination is 2, takes one.
+/// All nine digits agree, for p from 0 to 1 by tenths. Its tree of computation has four leaves, so three splits, as many as are taken
+/// here. The bridge of figure (1.3) has a domination of 2, so two leaves, and takes one split; no chance is printed for it.
 #[test]
 fn the_examples_of_document_001() {
     for tenths in 0..=10 {
         let plan = of_document_001(S / 10 * tenths);
-        hold_near(&plan, of(&[0, 5]), polynomial(tenths.into()), 6);
+        hold_known(&plan, of(&[0, 5]), polynomial(tenths.into()));
         assert_eq!(figure_of(&plan, of(&[0, 5]), MOST_STEPS).steps, 3);
     }
     assert_eq!([polynomial(5), polynomial(9)], [328_125_000, 966_974_760]);
