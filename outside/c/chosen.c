@@ -57,15 +57,16 @@ static void keep_piece(Network *g, uint32_t piece)
     g->with_two &= piece;
 }
 
-/* Step 3: whether the chosen nodes are in one piece. Pieces without any are dropped. */
+/* Step 3: whether the chosen nodes are in one piece. Pieces without any are dropped, at first and where a link is broken. */
 static bool is_together(Terminals *t, bool at_first)
 {
+    uint64_t links = t->net.links;
     uint32_t piece = piece_of(&t->net, first(t->chosen));
     if ((t->chosen & ~piece) != 0)
         return false;
     if (!SLIPPED(PIECES_LEFT_IN) && (at_first || !SLIPPED(LATER_PIECES_LEFT_IN)))
         keep_piece(&t->net, piece);
-    return true;
+    return !(at_first ? SLIPPED(OTHER_PIECES_0) : SLIPPED(LATER_PIECES_0)) || t->net.links == links;
 }
 
 /* The lowest node with one link, of those that a slip leaves. */
@@ -189,16 +190,12 @@ static inline uint32_t merged_chosen(const Terminals *t, int a, int b)
     return is ? others | node_bit(kept) : others;
 }
 
-#ifndef SPLIT_SLOT
-#define SPLIT_SLOT(t) split_slot(&(t)->net)
-#endif
-
 static Figure work_chosen(Terminals *t, uint64_t paired, uint64_t limit);
 
 /* Step 7. */
 static inline Figure split_chosen(Terminals *t, uint64_t limit)
 {
-    int slot = SPLIT_SLOT(t);
+    int slot = split_slot(&t->net);
     int a = t->net.ends[slot][0], b = t->net.ends[slot][1];
     Pair p = t->net.values[slot];
     remove_link(&t->net, slot);

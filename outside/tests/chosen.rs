@@ -6,6 +6,7 @@ use outside::bitsets;
 use outside::calls::{held, read, Call, MOST_STEPS};
 use outside::chosen::{self, all_nodes, Terminals};
 use outside::claims::{figure, figure_of, hold_figures_of};
+use outside::desk::hold;
 use outside::pieces::pieces;
 use outside::plans::{Link, Plan};
 use outside::random::Random;
@@ -402,21 +403,49 @@ fn plans_of_all_sizes() {
     }
 }
 
-/// Plans of many splits to their end, by the rule in C, and one step less.
+/// With chances between a half and one.
+fn with_chances(random: &mut Random, mut plan: Plan) -> Plan {
+    for link in &mut plan.links {
+        link.value = S - random.below(S as usize / 2) as u32;
+    }
+    plan
+}
+
+/// Plans of many splits to their end, and one step less.
 #[test]
 fn plans_of_many_splits() {
     let mut random = Random::new(221);
     for (nodes, splits) in [(7, 100), (8, 700), (9, 5_000)] {
-        let mut plan = Plan::complete(nodes, 0);
-        for link in &mut plan.links {
-            link.value = S - random.below(S as usize / 2) as u32;
-        }
+        let plan = with_chances(&mut random, Plan::complete(nodes, 0));
         let choice = of(&[1, nodes - 2]);
         let needed = bitsets::figure_of(&plan, choice, MOST_STEPS).steps;
         assert!(needed > splits, "{needed}");
         for limit in [needed - 1, needed] {
             let answer = agreed(&plan, choice, limit);
             assert_eq!((answer.steps, answer.finished), (limit, limit == needed));
+        }
+    }
+}
+
+/// The library against the rule in C alone, at very many splits, to the end and one step less.
+#[test]
+fn plans_of_very_many_splits() {
+    let mut random = Random::new(222);
+    for (nodes, splits) in [(10, 40_000), (11, 300_000)] {
+        let plan = with_chances(&mut random, Plan::complete(nodes, 0));
+        let choice = of(&[0, nodes - 1]);
+        let needed = bitsets::figure_of(&plan, choice, MOST_STEPS).steps;
+        assert!(needed > splits, "{needed}");
+        let file = &plan.bytes();
+        for limit in [needed - 1, needed] {
+            let call = Call::Figure {
+                plan: file,
+                choice,
+                limit,
+            };
+            let expected = Answer::from(bitsets::figure_of(&plan, choice, limit));
+            assert_eq!(expected.finished, limit == needed);
+            hold(&call, 24, &Ok(Some(expected)));
         }
     }
 }
