@@ -378,12 +378,30 @@ fn large_plans() {
     assert!(unfinished > 10, "too few: {unfinished}");
 }
 
+/// The library against the rule in C alone, which is faster.
+fn held_to_c(plan: &Plan, choice: u64, limit: u64) -> Answer {
+    let expected = Answer::from(bitsets::figure_of(plan, choice, limit));
+    let call = Call::Figure {
+        plan: &plan.bytes(),
+        choice,
+        limit,
+    };
+    hold(&call, 24, &Ok(Some(expected)));
+    expected
+}
+
 #[test]
 fn the_mesh_at_many_steps() {
     let mesh = read(&plan("mesh")).unwrap();
-    for (choice, limit) in [(of(&[0, 31]), 60_000), (of(&[0, 16]), 450_000)] {
-        let answer = figure_of(&mesh, choice, limit);
-        assert_eq!((answer.steps, answer.finished), (limit, false));
+    let steps = |answer: Answer| (answer.steps, answer.finished);
+    let limit = 20_000;
+    assert_eq!(steps(agreed(&mesh, of(&[0, 31]), limit)), (limit, false));
+    for (choice, limit) in [
+        (of(&[0, 31]), 60_000),
+        (of(&[0, 16]), 450_000),
+        (of(&[3, 20, 30]), MOST_STEPS),
+    ] {
+        assert_eq!(steps(held_to_c(&mesh, choice, limit)), (limit, false));
     }
 }
 
@@ -427,7 +445,7 @@ fn plans_of_many_splits() {
     }
 }
 
-/// The library against the rule in C alone, at very many splits, to the end and one step less.
+/// The same of very many splits, by the rule in C alone.
 #[test]
 fn plans_of_very_many_splits() {
     let mut random = Random::new(222);
@@ -436,16 +454,9 @@ fn plans_of_very_many_splits() {
         let choice = of(&[0, nodes - 1]);
         let needed = bitsets::figure_of(&plan, choice, MOST_STEPS).steps;
         assert!(needed > splits, "{needed}");
-        let file = &plan.bytes();
         for limit in [needed - 1, needed] {
-            let call = Call::Figure {
-                plan: file,
-                choice,
-                limit,
-            };
-            let expected = Answer::from(bitsets::figure_of(&plan, choice, limit));
-            assert_eq!(expected.finished, limit == needed);
-            hold(&call, 24, &Ok(Some(expected)));
+            let answer = held_to_c(&plan, choice, limit);
+            assert_eq!((answer.steps, answer.finished), (limit, limit == needed));
         }
     }
 }
