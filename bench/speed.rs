@@ -142,7 +142,7 @@ fn measured(versions: &[Worked; 3], scale: &Scale) -> ([Times; 3], u64) {
 
 fn row(cells: [&str; 7]) {
     let [plan, splits, library, in_c, ratio, straightforward, faster] = cells;
-    println!("| {plan:27} | {splits:>6} | {library:>19} | {in_c:>17} | {ratio:>11} | {straightforward:>19} | {faster:>13} |");
+    println!("| {plan:27} | {splits:>6} | {library:>19} | {in_c:>17} | {ratio:>11} | {straightforward:>22} | {faster:>13} |");
 }
 
 /// Prints the row of a plan, and returns the noise.
