@@ -5,7 +5,7 @@ use crate::arithmetic::{factor, parallel, product, series, split, Side, S, SIDES
 use crate::plans::Plan;
 use crate::rule::Figure;
 
-/// Bit i names node i: that of all nodes of a plan of so many.
+/// The choice of all of so many nodes: bit i names node i.
 pub fn all_nodes(count: u16) -> u64 {
     (0..count).map(|node| 1 << node).sum()
 }
