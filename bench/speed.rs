@@ -1,18 +1,21 @@
 //! Nanoseconds a split on three fixed plans: the library, through its figure call, beside the rule in C with bit sets,
-//! `outside/c/rule.c`, and the straightforward version, `outside/src/rule.rs`, taking turns in one run. Of these plans and the sample
+//! `outside/c/rule.c`, and the straightforward version, `outside/src/rule.rs`, taking turns in one run; and the same with two nodes
+//! chosen, where those are `outside/c/chosen.c` and `outside/src/chosen.rs`. Of these plans and the sample
 //! plans the splits and the time of a whole figure by either choice of the link that is split on, and where it takes too many splits
 //! the figures under some limits; the same of random plans, in the mean. Then the time of a whole listing by the program.
 //! As a test, without `--bench` among its words, it does everything once on a small scale and judges no time.
 
 use outside::arithmetic::S;
 use outside::bitsets::figure_by;
-use outside::calls::{answer_of, read, MOST_STEPS};
+use outside::calls::{answer_of, read, ANSWER, MOST_STEPS};
 use outside::listing::{by_the_calls, written};
 use outside::plans::{Link, Plan};
 use outside::random::Random;
 use outside::repository::{plan, plans_with};
 use outside::rule::{Choice, Figure, CHOICES};
-use outside::versions::{in_c, library, straightforward, Version};
+use outside::versions::{
+    in_c, in_c_of, library, library_of, straightforward, straightforward_of, Version, VersionOf,
+};
 use std::cmp::Ordering;
 use std::hint::black_box;
 use std::time::Instant;
@@ -66,6 +69,21 @@ fn complete() -> Plan {
 /// In the order of their columns.
 const VERSIONS: [Version; 3] = [library, in_c, straightforward];
 
+/// The same with chosen nodes.
+const VERSIONS_OF: [VersionOf; 3] = [library_of, in_c_of, straightforward_of];
+
+/// The bytes of one plan's figure under a limit.
+type Worked<'a> = Box<dyn Fn(u64) -> [u8; ANSWER] + 'a>;
+
+fn of_all(plan: &Plan) -> [Worked<'_>; 3] {
+    VERSIONS.map(|version| -> Worked { Box::new(move |limit| version(black_box(plan), limit)) })
+}
+
+fn of_chosen(plan: &Plan, choice: u64) -> [Worked<'_>; 3] {
+    VERSIONS_OF
+        .map(|version| -> Worked { Box::new(move |limit| version(black_box(plan), choice, limit)) })
+}
+
 /// The times of some runs, in ascending order.
 struct Times(Vec<f64>);
 
@@ -100,22 +118,22 @@ impl Times {
 
 /// The nanoseconds a split of each version, in turns, and the splits of the plan. Each run works a plan of few splits as
 /// often as it takes to fill the limit. All answers have to agree.
-fn measured(plan: &Plan, scale: &Scale) -> ([Times; 3], u64) {
+fn measured(versions: &[Worked; 3], scale: &Scale) -> ([Times; 3], u64) {
     let limit = scale.limit;
-    let expected = straightforward(plan, limit);
+    let expected = versions[2](limit);
     let splits = answer_of(&expected).steps;
     let rounds = limit / splits;
-    let run = |version: &Version| {
+    let run = |version: &Worked| {
         let started = Instant::now();
         for _ in 0..rounds {
-            let answer = black_box(version(black_box(plan), limit));
+            let answer = black_box(version(limit));
             assert_eq!(answer, expected, "the versions differ");
         }
         started.elapsed().as_nanos() as f64 / (rounds * splits) as f64
     };
     let mut taken = [const { Vec::new() }; 3];
     for _ in 0..scale.runs {
-        for (version, taken) in VERSIONS.iter().zip(&mut taken) {
+        for (version, taken) in versions.iter().zip(&mut taken) {
             taken.push(run(version));
         }
     }
@@ -124,20 +142,19 @@ fn measured(plan: &Plan, scale: &Scale) -> ([Times; 3], u64) {
 
 fn row(cells: [&str; 7]) {
     let [plan, splits, library, in_c, ratio, straightforward, faster] = cells;
-    println!("| {plan:27} | {splits:>6} | {library:>19} | {in_c:>17} | {ratio:>11} | {straightforward:>19} | {faster:>13} |");
+    println!("| {plan:27} | {splits:>6} | {library:>19} | {in_c:>17} | {ratio:>11} | {straightforward:>22} | {faster:>13} |");
 }
 
 /// Prints the row of a plan, and returns the noise.
-fn measured_row(name: &str, plan: &Plan, scale: &Scale) -> f64 {
-    let (times, splits) = measured(plan, scale);
-    let name = format!("{name}: {} nodes, {} links", plan.nodes, plan.links.len());
+fn measured_row(name: &str, versions: &[Worked; 3], scale: &Scale) -> f64 {
+    let (times, splits) = measured(versions, scale);
     let [library, in_c, straightforward] = times.each_ref().map(Times::median);
     let ratio = format!("{:.2}", library / in_c);
     let faster = format!("{:.1}", straightforward / library);
     let [library, in_c, straightforward] = &times.each_ref().map(Times::shown);
     let splits = &splits.to_string();
     row([
-        &name,
+        name,
         splits,
         library,
         in_c,
@@ -164,8 +181,23 @@ fn figures(scale: &Scale) -> f64 {
         "times as fast",
     ]);
     row(["---", "--:", "--:", "--:", "--:", "--:", "--:"]);
-    let noise = measured_plans().map(|(name, plan)| measured_row(name, &plan, scale));
-    noise.into_iter().fold(0.0, f64::max)
+    let all = measured_plans().map(|(name, plan)| {
+        let name = format!("{name}: {} nodes, {} links", plan.nodes, plan.links.len());
+        measured_row(&name, &of_all(&plan), scale)
+    });
+    let some = chosen_nodes().map(|(name, plan, [a, b])| {
+        let name = format!("{name}, nodes {a} and {b}");
+        let choice = 1 << a | 1 << b;
+        measured_row(&name, &of_chosen(&plan, choice), scale)
+    });
+    all.into_iter().chain(some).fold(0.0, f64::max)
+}
+
+/// Two nodes of each of the plans.
+fn chosen_nodes() -> [(&'static str, Plan, [u8; 2]); 3] {
+    let nodes = [[0, 15], [0, 16], [0, 8]];
+    let mut nodes = nodes.into_iter();
+    measured_plans().map(|(name, plan)| (name, plan, nodes.next().unwrap()))
 }
 
 fn measured_plans() -> [(&'static str, Plan); 3] {

@@ -47,14 +47,18 @@ int main(void)
     printf("check, two links: %" PRIu64 "\n", check(two_links, sizeof two_links));
     printf("check, a byte short: %" PRIu64 "\n", check(two_links, sizeof two_links - 1));
 
-    r = figure(two_links, sizeof two_links, NULL, 0, 20000, answer, sizeof answer);
+    r = figure(two_links, sizeof two_links, NULL, 0, PLANDESK_ALL_NODES(2), 20000, answer, sizeof answer);
     print("figure, two links", r, answer);
-    r = figure(four_nodes, sizeof four_nodes, NULL, 0, 20000, answer, sizeof answer);
+    r = figure(four_nodes, sizeof four_nodes, NULL, 0, PLANDESK_ALL_NODES(4), 20000, answer, sizeof answer);
     print("figure, four nodes", r, answer);
-    r = figure(four_nodes, sizeof four_nodes, NULL, 0, 0, answer, sizeof answer);
+    r = figure(four_nodes, sizeof four_nodes, NULL, 0, PLANDESK_ALL_NODES(4), 0, answer, sizeof answer);
     print("figure, four nodes, no step", r, answer);
-    r = figure(four_nodes, sizeof four_nodes, NULL, 0, PLANDESK_MOST_STEPS + 1, answer, sizeof answer);
+    r = figure(four_nodes, sizeof four_nodes, NULL, 0, 15, PLANDESK_MOST_STEPS + 1, answer, sizeof answer);
     print("figure, a step too many", r, answer);
+    r = figure(four_nodes, sizeof four_nodes, NULL, 0, 1 << 0 | 1 << 1, 20000, answer, sizeof answer);
+    print("figure, nodes 0 and 1 of the four", r, answer);
+    r = figure(four_nodes, sizeof four_nodes, NULL, 0, 1 << 0 | 1 << 4, 20000, answer, sizeof answer);
+    print("figure, nodes 0 and 4 of the four", r, answer);
 
     r = importance(two_links, sizeof two_links, NULL, 0, 0, 20000, answer, sizeof answer);
     print("importance of link 0", r, answer);
@@ -64,12 +68,12 @@ int main(void)
     r = difference(one_link, sizeof one_link, two_links, sizeof two_links, NULL, 0, 20000, answer, sizeof answer);
     print("one link less two links", r, answer);
 
-    r = figure(one_length, sizeof one_length, NULL, 0, 20000, answer, sizeof answer);
+    r = figure(one_length, sizeof one_length, NULL, 0, PLANDESK_ALL_NODES(2), 20000, answer, sizeof answer);
     print("figure, 500 metres", r, answer);
     fill(table);
-    r = figure(one_length, sizeof one_length, table, sizeof table, 20000, answer, sizeof answer);
+    r = figure(one_length, sizeof one_length, table, sizeof table, 3, 20000, answer, sizeof answer);
     print("figure, 500 metres of the buyer's cable", r, answer);
-    r = figure(one_length, sizeof one_length, table, sizeof table - 1, 20000, answer, sizeof answer);
+    r = figure(one_length, sizeof one_length, table, sizeof table - 1, 3, 20000, answer, sizeof answer);
     print("figure, a table a byte short", r, answer);
     return 0;
 }

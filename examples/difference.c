@@ -2,6 +2,7 @@
    second, each within 20,000 steps or the limit given, and all three under the table if one is given. Exit status: 0 if all
    three are answered, 1 if one is refused, 2 if the words are wrong, a file cannot be read or the table's file is empty. */
 
+#include "nodes.h"
 #include "print.h"
 
 #include <errno.h>
@@ -47,6 +48,13 @@ static uint64_t read_limit(const char *word)
     return strtoull(word, NULL, 10);
 }
 
+/* The figure of all nodes. */
+static uint64_t figure_of(const struct contents *plan, const struct contents *table, uint64_t limit, uint8_t *answer)
+{
+    uint64_t choice = all_nodes(plan->bytes, plan->length);
+    return figure(plan->bytes, plan->length, table->bytes, table->length, choice, limit, answer, PLANDESK_ANSWER);
+}
+
 int main(int count, char **words)
 {
     struct contents a, b, table = {.length = 0};
@@ -64,9 +72,9 @@ int main(int count, char **words)
     if (count > 4)
         read_table(words[4], &table);
 
-    refused_a = figure(a.bytes, a.length, table.bytes, table.length, limit, answer, sizeof answer);
+    refused_a = figure_of(&a, &table, limit, answer);
     print("A", refused_a, answer);
-    refused_b = figure(b.bytes, b.length, table.bytes, table.length, limit, answer, sizeof answer);
+    refused_b = figure_of(&b, &table, limit, answer);
     print("B", refused_b, answer);
     refused = difference(a.bytes, a.length, b.bytes, b.length, table.bytes, table.length, limit, answer, sizeof answer);
     print("A - B", refused, answer);

@@ -3,6 +3,7 @@
    way of SAVED.new. With the word compare it also prints what one run of as many steps answers. Exit status: 0 if all is
    answered, 1 if a call is refused, 2 if the words are wrong or a file cannot be read or written. */
 
+#include "nodes.h"
 #include "print.h"
 
 #include <errno.h>
@@ -78,7 +79,8 @@ int main(int count, char **words)
     write_saved(words[2], work);
 
     if (count == 4) {
-        refused = figure(plan.bytes, plan.length, NULL, 0, number(answer + 8), answer, sizeof answer);
+        refused = figure(plan.bytes, plan.length, NULL, 0, all_nodes(plan.bytes, plan.length), number(answer + 8), answer,
+                         sizeof answer);
         print("in one run", refused, answer);
     }
     return refused == 0 ? 0 : 1;

@@ -13,12 +13,17 @@
    equal ones will do, and so will 0. Within that call T[k] is the table's value at k, with the joints as above, for every
    length, in a difference for those of both plans. With a table of no bytes the T above serves, which is built in.
 
+   A choice, which figure is handed, says which nodes count: bit i, of value 2 to the power i, names node i. The chosen
+   nodes hang together if the sound links lead from each of them to every other, over any nodes, chosen or not; one node
+   alone always does. With all nodes chosen, by 2 to the power n less 1, every node has to reach every other. Importance,
+   difference and sitting take no choice and mean all nodes.
+
    An answer is four 32-bit little-endian numbers, 16 bytes: low, high, steps, finished (1 or 0). They fill the first 16
    bytes of the answer buffer; later bytes keep their contents. The exact figure, in units, is no less than low and no
    more than high, finished or not; exact means of the chances as they stand above, those of lengths not rounded. Where a
    figure is finished, high is at most 2 * m + 4 * n + 4 * L above low, L being the number of links given by length; a
    finished importance or difference is at most as wide as its two evaluations together may be. All this holds under every
-   table that is accepted.
+   table and every choice that is accepted.
 
    Each call returns 0 if it is accepted, and otherwise the number of the first cause of refusal that it meets, in the order
    of this list. A refused call leaves the whole answer buffer as it was, and the whole work buffer.
@@ -33,12 +38,14 @@
      4             the length is not 4 + 6 * m
      5 + 256 * i   link i has an end n or above
      6 + 256 * i   link i has a value from S + 1 to 2,147,483,647, or k above 511
+     14            the choice is 0, or names node n or above
      8             the link place is m or above
      10            the saved work has a wrong form
      11            an open split of the saved work is not one that the rule comes to on this plan, now or before
 
-   Links are tested in order, 5 before 6 at each. 12 and 13 are tested also where the plan has no length. 8 is of importance
-   alone; the work buffer, 10 and 11 are of sitting alone; check has 1 to 6 alone.
+   Links are tested in order, 5 before 6 at each. 12 and 13 are tested also where the plan has no length. 14 is of figure
+   alone, and of all 64 bits of the choice; 8 is of importance alone; the work buffer, 10 and 11 are of sitting alone;
+   check has 1 to 6 alone.
 
    A call asks that each pointer stands for as many bytes as the length behind it says (any pointer will do where that is
    0), and that a buffer that is written to shares no byte with another buffer, a plan, a table or saved work. It allocates
@@ -61,25 +68,28 @@
 extern "C" {
 #endif
 
-/* The bytes of an answer, the bytes of a work buffer, the bytes of a table, the largest limit, one in units, and the value
-   of a length of 0. */
+/* The bytes of an answer, the bytes of a work buffer, the bytes of a table, the largest limit, one in units, the value of a
+   length of 0, and the choice of all of n nodes. */
 #define PLANDESK_ANSWER 16
 #define PLANDESK_WORK 776
 #define PLANDESK_TABLE 2048
 #define PLANDESK_MOST_STEPS 1000000
 #define PLANDESK_ONE 1000000000
 #define PLANDESK_LENGTH 2147483648u
+#define PLANDESK_ALL_NODES(n) (((uint64_t)1 << (n)) - 1)
 
 /* Whether the plan is accepted. Returns 0, 1, 2, 3, 4, 5 + 256 * i or 6 + 256 * i. */
 uint64_t check(const uint8_t *plan, size_t plan_len);
 
-/* The chance that every node can reach every other, within so many steps at most. Low and high are 0 to S; steps is at
-   most the limit. Returns 0, or 7, 9, 12, 13, 1 to 4, 5 + 256 * i or 6 + 256 * i. */
-uint64_t figure(const uint8_t *plan, size_t plan_len, const uint8_t *table, size_t table_len, uint64_t limit,
-                uint8_t *answer, size_t answer_len);
+/* The chance that the chosen nodes hang together, within so many steps at most. Low and high are 0 to S; steps is at
+   most the limit. One chosen node gives S and S; chosen nodes that no path of links joins, whatever its chance, give 0
+   and 0; both are finished with 0 steps. Fewer chosen nodes may take more steps.
+   Returns 0, or 7, 9, 12, 13, 1 to 4, 5 + 256 * i, 6 + 256 * i or 14. */
+uint64_t figure(const uint8_t *plan, size_t plan_len, const uint8_t *table, size_t table_len, uint64_t choice,
+                uint64_t limit, uint8_t *answer, size_t answer_len);
 
-/* The chance with the link at this place sound, less the chance with it broken. Low and high are 0 to S. Each of the two
-   evaluations gets the whole limit; steps is their sum, and finished is 1 if both are.
+/* The chance that every node can reach every other with the link at this place sound, less that with it broken. Low and
+   high are 0 to S. Each of the two evaluations gets the whole limit; steps is their sum, and finished is 1 if both are.
    Returns 0, or 7, 9, 12, 13, 1 to 4, 5 + 256 * i, 6 + 256 * i or 8. */
 uint64_t importance(const uint8_t *plan, size_t plan_len, const uint8_t *table, size_t table_len, uint64_t place,
                     uint64_t limit, uint8_t *answer, size_t answer_len);
@@ -91,15 +101,15 @@ uint64_t importance(const uint8_t *plan, size_t plan_len, const uint8_t *table, 
 uint64_t difference(const uint8_t *plan_a, size_t plan_a_len, const uint8_t *plan_b, size_t plan_b_len,
                     const uint8_t *table, size_t table_len, uint64_t limit, uint8_t *answer, size_t answer_len);
 
-/* The figure, carried on from saved work and set aside again: answer gets the answer so far, work the saved work for the
-   next sitting. The first sitting of a plan is handed eight zero bytes, each later one what the one before wrote, at its
-   length, and the same table.
+/* The figure of all nodes, carried on from saved work and set aside again: answer gets the answer so far, work the saved
+   work for the next sitting. The first sitting of a plan is handed eight zero bytes, each later one what the one before
+   wrote, at its length, and the same table.
 
    A sitting takes at most its limit in steps, and at most what the steps so far leave of 1,000,000: a total past
-   1,000,000 is cut and not refused. The steps of the answer are the total so far. A first sitting answers as figure does
-   under its limit. Sittings one after the other end with the answer of figure under the sum of their limits, or under
-   1,000,000 if that is less, and with the saved work of one first sitting under that limit. Work stopped by the 1,000,000
-   stays begun, and later sittings give the same answer and the same saved work.
+   1,000,000 is cut and not refused. The steps of the answer are the total so far. A first sitting answers as figure with
+   all nodes chosen does under its limit. Sittings one after the other end with the answer of that figure under the sum
+   of their limits, or under 1,000,000 if that is less, and with the saved work of one first sitting under that limit.
+   Work stopped by the 1,000,000 stays begun, and later sittings give the same answer and the same saved work.
 
    The rule splits on the link whose two ends have the most links together, the earliest of such links; before, it split
    on the first link. Work set aside then is carried on, of a plan without lengths: its open splits and the figures of

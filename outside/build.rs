@@ -33,22 +33,26 @@ fn link_the_libraries() {
     }
 }
 
-/// With either choice of the link that is split on.
+/// With either choice of the link that is split on, and with chosen nodes.
 fn link_the_rule_in_c() {
     let folder = PathBuf::from(env::var("OUT_DIR").unwrap());
     let mut archive = Command::new("ar");
     archive.arg("rcs").arg(folder.join("librule.a"));
-    for (choice, object) in [("LARGEST_SUM", "rule.o"), ("FIRST_LINK", "first_link.o")] {
+    for (choice, source, object) in [
+        ("LARGEST_SUM", "c/rule.c", "rule.o"),
+        ("FIRST_LINK", "c/rule.c", "first_link.o"),
+        ("LARGEST_SUM", "c/chosen.c", "chosen.o"),
+    ] {
         let object = folder.join(object);
         let mut gcc = Command::new("gcc");
         gcc.args(["-std=c11", "-O3", "-march=native"])
             .args(WARNINGS);
-        gcc.args(["-D", choice, "-c", "c/rule.c", "-o"]);
+        gcc.args(["-D", choice, "-c", source, "-o"]);
         ran(gcc.arg(&object));
         archive.arg(object);
+        println!("cargo:rerun-if-changed={source}");
     }
     ran(&mut archive);
-    println!("cargo:rerun-if-changed=c/rule.c");
     println!("cargo:rustc-link-search=native={}", folder.display());
     println!("cargo:rustc-link-lib=static=rule");
 }

@@ -1,4 +1,4 @@
-/* Makes calls for a test. Each call is read from standard input: eight 64-bit numbers (which call, limit, place, and the
+/* Makes calls for a test. Each call is read from standard input: eight 64-bit numbers (which call, limit, place or choice, and the
    lengths of the answer buffer, of plan A, of plan B or the saved work, of the work buffer, and of the table), and then the
    contents of these five. The number returned and the contents of both buffers are written to standard output. Every plan,
    table and buffer has a block of memory of its own, of just its size, so that a memory checker sees a byte read or written
@@ -20,13 +20,13 @@ static uint8_t *block(size_t size)
 static uint64_t made(const uint64_t *asked, const uint8_t *a, const uint8_t *b, const uint8_t *table, uint8_t *answer,
                      uint8_t *work)
 {
-    uint64_t limit = asked[1], place = asked[2];
+    uint64_t limit = asked[1], place = asked[2], choice = asked[2];
     size_t room = asked[3], a_len = asked[4], b_len = asked[5], work_len = asked[6], table_len = asked[7];
     switch (asked[0]) {
     case 0:
         return check(a, a_len);
     case 1:
-        return figure(a, a_len, table, table_len, limit, answer, room);
+        return figure(a, a_len, table, table_len, choice, limit, answer, room);
     case 2:
         return importance(a, a_len, table, table_len, place, limit, answer, room);
     case 3:

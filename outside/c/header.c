@@ -14,13 +14,15 @@ int main(void)
     uint8_t answer[PLANDESK_ANSWER] = {0}, work[PLANDESK_WORK] = {0};
     uint64_t limit = PLANDESK_MOST_STEPS;
     int wrong = refused(check(plan, sizeof plan));
-    wrong |= refused(figure(plan, sizeof plan, NULL, 0, limit, answer, sizeof answer));
+    wrong |= refused(figure(plan, sizeof plan, NULL, 0, PLANDESK_ALL_NODES(2), limit, answer, sizeof answer));
     wrong |= refused(importance(plan, sizeof plan, NULL, 0, 0, limit, answer, sizeof answer));
     wrong |= refused(difference(plan, sizeof plan, plan, sizeof plan, NULL, 0, limit, answer, sizeof answer));
     wrong |= refused(sitting(plan, sizeof plan, NULL, 0, limit, nothing, sizeof nothing, answer, sizeof answer, work,
                              sizeof work));
     wrong |= !refused(check(plan, sizeof plan - 1));
-    wrong |= figure(plan, sizeof plan, nothing, sizeof nothing, limit, answer, sizeof answer) != 12;
+    wrong |= figure(plan, sizeof plan, nothing, sizeof nothing, 3, limit, answer, sizeof answer) != 12;
+    wrong |= figure(plan, sizeof plan, NULL, 0, 4, limit, answer, sizeof answer) != 14;
+    wrong |= PLANDESK_ALL_NODES(1) != 1 || PLANDESK_ALL_NODES(31) != 0x7fffffff || PLANDESK_ALL_NODES(32) != 0xffffffff;
     wrong |= PLANDESK_TABLE != 2048;
     return wrong | (PLANDESK_ONE != 1000000000) | (PLANDESK_LENGTH != 2147483648u);
 }

@@ -1,13 +1,19 @@
-/* The figure, the importance, the difference and the sitting by the rule in C, with one slip of the choice, of the joints or of
-   the table, or none: what the kinds of c/slips.c from 90 on put in the place of the library. Nothing is proved of it. That it passes all tests
-   without a slip is tried before the slips are. */
+/* The figure, the importance, the difference and the sitting by the rule in C, with one slip of the choice, of the joints, of the
+   table or of chosen nodes, or none: what kinds 90 and 91 of c/slips.c put in the place of the library. Nothing is proved of it. That
+   it passes all tests without a slip is tried before the slips are. */
 
 #include "in_c.h"
 
-#define rule_figure in_c_rule_figure
-#include "rule.c"
-
+#include <stdbool.h>
 #include <string.h>
+
+/* The slip of chosen nodes. */
+static _Thread_local long slip_of_chosen;
+
+#define SLIPPED(slip) (slip_of_chosen == (slip))
+#define rule_figure in_c_rule_figure
+#define chosen_figure in_c_chosen_figure
+#include "chosen.c"
 
 #define MOST_OPEN 64
 #define MOST_STEPS 1000000
@@ -551,7 +557,11 @@ static uint64_t in_c_figure(long slip, const struct call *c)
     uint64_t refused = first_of(asked(slip, c), asked_last(slip, c));
     if (refused != 0)
         return refused;
-    Figure f = worked(&r, network_of(slip_in(slip, IN_FIGURE), c, c->a), nodes_of(c->a), c->limit);
+    if (c->choice == 0 || (c->choice & ~(uint64_t)nodes_of(c->a)) != 0)
+        return 14;
+    Terminals t = {network_of(slip_in(slip, IN_FIGURE), c, c->a), c->choice};
+    bool by_all = c->choice == nodes_of(c->a) && slip_of_chosen == SOME_BY_CHOSEN;
+    Figure f = by_all ? worked(&r, t.net, nodes_of(c->a), c->limit) : figure_of_chosen(&t, c->limit);
     put_answer(c->answer, f.low, f.high, f.steps, f.finished);
     return 0;
 }
@@ -686,8 +696,9 @@ static uint64_t in_c_sitting(long slip, const struct call *c)
     return 0;
 }
 
-uint64_t in_c(long slip, const struct call *c)
+uint64_t in_c(long slip, long chosen_slip, const struct call *c)
 {
+    slip_of_chosen = chosen_slip;
     switch (c->which) {
     case CHECK:
         return proved_check(c->a, c->a_len);

@@ -1,4 +1,5 @@
-/* The calls by the rule in C (in_c.c), and the slips of the choice, of the joints and of the table that they may have. */
+/* The calls by the rule in C (in_c.c), and the slips of the choice, of the joints, of the table and of chosen nodes that they
+   may have. */
 
 #ifndef IN_C_H
 #define IN_C_H
@@ -101,6 +102,37 @@ enum {
     NOT_IF_COMPLETE,     /* neither is where saved work is complete */
 };
 
+/* Slips of the rule with chosen nodes, which are made in figure alone. But for the first it is the rule for all nodes too. */
+enum {
+    SOME_BY_CHOSEN = -1,
+    NO_CHOSEN_SLIP,
+    UNCHOSEN_END_FACTOR,     /* an unchosen end leaves its factor */
+    CHOSEN_END_BARE,         /* a chosen end leaves none */
+    NEIGHBOUR_NOT_CHOSEN,    /* the neighbour of a chosen end does not become chosen */
+    NEIGHBOUR_ALWAYS_CHOSEN, /* that of an unchosen end becomes chosen too */
+    UNCHOSEN_ENDS_LEFT,      /* unchosen ends are left */
+    CHOSEN_ENDS_LEFT,        /* chosen ends are left */
+    UNCHOSEN_SERIES_FACTOR,  /* an unchosen node of two links is reduced as a chosen one */
+    CHOSEN_SERIES_BARE,      /* a chosen one is reduced as an unchosen one */
+    NO_NEIGHBOUR_CHOSEN,     /* a chosen one is reduced whatever its neighbours */
+    ONE_NEIGHBOUR_CHOSEN,    /* a chosen one is reduced if one of its neighbours is chosen */
+    UNCHOSEN_SERIES_LEFT,    /* unchosen ones are left */
+    CHOSEN_SERIES_LEFT,      /* chosen ones are left */
+    UNCHOSEN_SERIES_FIRST,   /* unchosen ones go ahead of chosen ones */
+    CHOSEN_SERIES_FIRST,     /* chosen ones go ahead of unchosen ones */
+    LINE_LOW_UP,             /* the low of p * q / S is rounded up */
+    LINE_HIGH_DOWN,          /* its high is rounded down */
+    PIECES_LEFT_IN,          /* pieces without a chosen node are left in */
+    LATER_PIECES_LEFT_IN,    /* those that come off at a broken link are */
+    OTHER_PIECES_0,          /* links in a piece without a chosen node give 0 */
+    LATER_PIECES_0,          /* those of a piece that comes off at a broken link do */
+    ONE_NODE_LEFT,           /* one chosen node gives S only where no link is left */
+    MERGED_IF_BOTH,          /* a merged node is chosen if both were */
+    MERGED_IF_SMALLER,       /* if the smaller was */
+    MERGED_IF_LARGER,        /* if the larger was */
+    MERGED_ALWAYS,           /* always */
+};
+
 /* A slip of the joints or of the table may be made in one place alone, whose number stands before the slip's last two digits. */
 enum { EVERYWHERE, IN_FIGURE, IN_IMPORTANCE, IN_PLAN_A, IN_PLAN_B, IN_SITTING, IN_CARRIED };
 
@@ -111,14 +143,14 @@ struct call {
     long which;
     const uint8_t *a, *b, *table;
     size_t a_len, b_len, table_len;
-    uint64_t place, limit;
+    uint64_t place, choice, limit;
     uint8_t *answer;
     size_t room;
     uint8_t *work;
     size_t work_room;
 };
 
-/* Makes the call by the rule in C. */
-uint64_t in_c(long slip, const struct call *c);
+/* Makes the call by the rule in C, with a slip of the first kinds and one of chosen nodes. */
+uint64_t in_c(long slip, long chosen_slip, const struct call *c);
 
 #endif

@@ -168,21 +168,27 @@ static inline Pair end_step(Network *g)
     return g->values[slot];
 }
 
-/* Step 6. Returns its factor, and the new link, which alone may have a partner then. */
-static inline Pair series_step(Network *g, uint64_t *joined)
+/* A node of two links goes, and one link of this value joins its neighbours at the earlier place. Returns that link, which alone
+   may have a partner then. */
+static inline uint64_t bypass(Network *g, int v, Pair value)
 {
-    int v = first(g->with_two);
     int i = first(g->at[v]), j = first(without_first(g->at[v]));
     int x = across(g, i, v), y = across(g, j, v);
-    Pair p = g->values[i], q = g->values[j];
     remove_link(g, j);
     g->at[v] = 0;
     g->at[y] |= link_bit(i);
     g->ends[i][0] = x;
     g->ends[i][1] = y;
-    g->values[i] = series(p, q);
+    g->values[i] = value;
     tally(g, v);
-    *joined = link_bit(i);
+    return link_bit(i);
+}
+
+/* Step 6. Returns its factor, and the new link. */
+static inline Pair series_step(Network *g, int v, uint64_t *joined)
+{
+    Pair p = g->values[first(g->at[v])], q = g->values[first(without_first(g->at[v]))];
+    *joined = bypass(g, v, series(p, q));
     return series_factor(p, q);
 }
 
@@ -196,7 +202,7 @@ static inline int reduce(Network *g, uint64_t paired, Pair *factors)
         if (g->with_one != 0)
             factors[count++] = end_step(g);
         else if (g->with_two != 0)
-            factors[count++] = series_step(g, &paired);
+            factors[count++] = series_step(g, first(g->with_two), &paired);
         else
             return count;
     }
@@ -245,13 +251,13 @@ static Figure work(Network *g, uint64_t paired, uint64_t limit);
 #ifdef FIRST_LINK
 #define rule_figure rule_figure_first_link
 
-static inline int chosen(const Network *g)
+static inline int split_slot(const Network *g)
 {
     return first(g->links);
 }
 #else
 /* The earliest of the links whose two ends' link counts have the largest sum. */
-static inline int chosen(const Network *g)
+static inline int split_slot(const Network *g)
 {
     int slot = 0, most = 0;
     for (uint64_t links = g->links; links != 0; links = without_first(links)) {
@@ -269,7 +275,7 @@ static inline int chosen(const Network *g)
 /* Step 7. */
 static inline Figure split(Network *g, uint64_t limit)
 {
-    int slot = chosen(g);
+    int slot = split_slot(g);
     int a = g->ends[slot][0], b = g->ends[slot][1];
     Pair p = g->values[slot];
     remove_link(g, slot);
@@ -298,8 +304,8 @@ static Figure work(Network *g, uint64_t paired, uint64_t limit)
     return f;
 }
 
-/* The figure of a plan with n nodes and m links. Each link has two ends, and a low and a high value in units. */
-Figure rule_figure(uint32_t n, uint32_t m, const uint8_t *ends, const Pair *values, uint64_t limit)
+/* The network of a plan with n nodes and m links, without its loops. Each link has two ends, and a low and a high value in units. */
+static Network without_loops(uint32_t n, uint32_t m, const uint8_t *ends, const Pair *values)
 {
     Network g = {0};
     for (uint32_t i = 0; i < m; i++) {
@@ -315,6 +321,13 @@ Figure rule_figure(uint32_t n, uint32_t m, const uint8_t *ends, const Pair *valu
     }
     for (uint32_t v = 0; v < n; v++)
         tally(&g, v);
+    return g;
+}
+
+/* The figure of such a plan. */
+Figure rule_figure(uint32_t n, uint32_t m, const uint8_t *ends, const Pair *values, uint64_t limit)
+{
+    Network g = without_loops(n, m, ends, values);
     uint32_t nodes = UINT32_MAX >> (MOST_NODES - n);
     return reaches(&g, 0, nodes) ? work(&g, g.links, limit) : known(0);
 }

@@ -4,8 +4,9 @@
    SLIP is the number of a kind and eight more numbers. Of kinds 0 and 1: the call (0 check, 1 figure, 2 importance,
    3 difference, 4 sitting), what is wrong, by how much; and where: of an answer (kind 0) the least and the most links, whether
    it is finished, the least and the most steps; of a refusal (kind 1) its number without the link. Of kinds 70 to 84 the
-   call, and of kind 76 a count. Of kind 90 a slip of the choice, of the joints or of the table, made in calls in C. Of other
-   kinds: none. */
+   call, and of kind 76 a count. Of kind 90 a slip of the choice, of the joints or of the table, of kind 91 one of chosen nodes, both
+   made in calls in C. Of kind 92 a slip of the choice of nodes, made around figure. Of kind 93 the same as of kind 0, where some
+   nodes are not chosen. Of other kinds: none. */
 
 #include "in_c.h"
 #include "plandesk.h"
@@ -16,8 +17,8 @@
 #include <string.h>
 
 uint64_t proved_check(const uint8_t *plan, size_t plan_len);
-uint64_t proved_figure(const uint8_t *plan, size_t plan_len, const uint8_t *table, size_t table_len, uint64_t limit,
-                       uint8_t *answer, size_t answer_len);
+uint64_t proved_figure(const uint8_t *plan, size_t plan_len, const uint8_t *table, size_t table_len, uint64_t choice,
+                       uint64_t limit, uint8_t *answer, size_t answer_len);
 uint64_t proved_importance(const uint8_t *plan, size_t plan_len, const uint8_t *table, size_t table_len, uint64_t place,
                            uint64_t limit, uint8_t *answer, size_t answer_len);
 uint64_t proved_difference(const uint8_t *plan_a, size_t plan_a_len, const uint8_t *plan_b, size_t plan_b_len,
@@ -35,7 +36,7 @@ static uint64_t proved(const struct call *c)
     case CHECK:
         return proved_check(c->a, c->a_len);
     case FIGURE:
-        return proved_figure(c->a, c->a_len, c->table, c->table_len, c->limit, c->answer, c->room);
+        return proved_figure(c->a, c->a_len, c->table, c->table_len, c->choice, c->limit, c->answer, c->room);
     case IMPORTANCE:
         return proved_importance(c->a, c->a_len, c->table, c->table_len, c->place, c->limit, c->answer, c->room);
     case DIFFERENCE:
@@ -558,6 +559,185 @@ static uint64_t of_one_call(struct call *c, const long *s)
     return returned;
 }
 
+/* How many nodes an accepted plan has. */
+static unsigned nodes_of(const struct call *c)
+{
+    return proved_check(c->a, c->a_len) == 0 ? c->a[0] : 0;
+}
+
+static uint64_t all_of(unsigned nodes)
+{
+    return ((uint64_t)1 << nodes) - 1;
+}
+
+/* Whether 14 is what a call is refused with. */
+static int is_14(const struct call *c)
+{
+    uint8_t answer[16];
+    struct call other = *c;
+    other.answer = answer;
+    other.limit = c->limit > 1000000 ? c->limit : 0;
+    other.room = c->room < 16 ? c->room : 16;
+    return proved(&other) == 14;
+}
+
+/* The call with another choice. */
+static uint64_t choosing(struct call *c, uint64_t choice)
+{
+    c->choice = choice;
+    return proved(c);
+}
+
+/* The same where 14 refuses the choice. */
+static uint64_t instead(struct call *c, uint64_t choice)
+{
+    return is_14(c) ? choosing(c, choice) : proved(c);
+}
+
+/* 14 where the choice is wrong for a plan of so many nodes, whatever else is. */
+static int wrong_choice(const struct call *c, unsigned nodes)
+{
+    return c->choice == 0 || (nodes <= 32 && (c->choice & ~all_of(nodes)) != 0);
+}
+
+/* The nodes that the first bytes of a file say. */
+static unsigned nodes_said(const struct call *c)
+{
+    return c->a_len < 2 ? 64 : c->a[0] | c->a[1] << 8;
+}
+
+static uint64_t reversed(uint64_t choice, unsigned nodes)
+{
+    uint64_t other = 0;
+    for (unsigned i = 0; i < nodes; i++)
+        other |= (choice >> i & 1) << (nodes - 1 - i);
+    return other;
+}
+
+static uint64_t without_lowest(uint64_t choice)
+{
+    return choice & (choice - 1);
+}
+
+/* A choice that is accepted, changed. */
+static uint64_t changed(uint64_t choice, long slip, unsigned nodes)
+{
+    uint64_t all = all_of(nodes), others = all & ~choice, lowest = choice & -choice;
+    int few = without_lowest(choice) == 0, two = !few && without_lowest(without_lowest(choice)) == 0;
+    switch (slip) {
+    case 1: /* the choice is ignored */
+        return all;
+    case 2: /* the nodes that are not chosen are taken */
+        return others != 0 ? others : choice;
+    case 3: /* each bit names the node above */
+        return (choice << 1 & all) != 0 ? choice << 1 & all : choice;
+    case 4: /* each bit names the node below */
+        return choice >> 1 != 0 ? choice >> 1 : choice;
+    case 5: /* the bits name the nodes from the last on */
+        return reversed(choice, nodes);
+    case 6: /* the lowest chosen node is left out */
+        return few ? choice : without_lowest(choice);
+    case 7: /* the lowest two chosen nodes are taken alone */
+        return lowest | (without_lowest(choice) & -without_lowest(choice));
+    case 8: /* node 31 is never chosen */
+        return (choice & 0x7fffffff) != 0 ? choice & 0x7fffffff : choice;
+    case 9: /* the choice is 16 bits */
+        return (choice & 0xffff) != 0 ? choice & 0xffff : choice;
+    case 10: /* node 0 is always chosen */
+        return choice | 1;
+    case 11: /* the node above the lowest of two is chosen as well */
+        return two ? (choice | lowest << 1) & all : choice;
+    case 12: /* the last node is always chosen */
+        return choice | 1ull << (nodes - 1);
+    default:
+        return choice;
+    }
+}
+
+/* What is returned, and left in the buffer, where the choice is wrong. */
+static uint64_t chosen_refused(struct call *c, long slip)
+{
+    uint64_t returned = proved(c), cause = returned % 256;
+    int wrong = wrong_choice(c, nodes_said(c));
+    switch (slip) {
+    case 28: /* 14 is tested before 1 to 6 */
+        return wrong && 1 <= cause && cause <= 6 ? 14 : returned;
+    case 29: /* a choice of no node is refused before 1 to 6 */
+        return c->choice == 0 && 1 <= cause && cause <= 6 ? 14 : returned;
+    case 30: /* 14 is tested before 5 and 6 */
+        return wrong && 5 <= cause && cause <= 6 ? 14 : returned;
+    case 31: /* 14 is tested before 12 and 13 */
+        return wrong && 12 <= cause && cause <= 13 ? 14 : returned;
+    case 32: /* 14 is tested before 9 */
+        return wrong && cause == 9 ? 14 : returned;
+    case 33: /* 14 is tested before 7 */
+        return wrong && cause == 7 ? 14 : returned;
+    case 34: /* S is written where no node is chosen */
+        if (cause == 14 && c->choice == 0)
+            put(c->answer, 1000000000);
+        return returned;
+    case 35: /* 16 bytes are cleared where the choice is wrong */
+        if (cause == 14)
+            memset(c->answer, 0, 16);
+        return returned;
+    default:
+        return returned;
+    }
+}
+
+/* Kind 92: a slip of the choice of nodes. */
+static uint64_t chosen_otherwise(struct call *c, long slip)
+{
+    unsigned nodes = nodes_of(c);
+    uint64_t limit = c->limit, all = nodes == 0 ? 0 : all_of(nodes);
+    int passes = nodes != 0 && !wrong_choice(c, nodes);
+    if (slip <= 12)
+        return passes ? choosing(c, changed(c->choice, slip, nodes)) : proved(c);
+    switch (slip) {
+    case 13: /* the choice is cut to 32 bits */
+        return choosing(c, (uint32_t)c->choice);
+    case 14: /* the choice and the limit are exchanged */
+        c->limit = c->choice;
+        return choosing(c, limit);
+    case 15: /* no node is all nodes */
+        return c->choice == 0 ? choosing(c, all) : proved(c);
+    case 16: /* no node is node 0 */
+        return c->choice == 0 ? choosing(c, 1) : proved(c);
+    case 17: /* nodes from n on are passed over */
+        return instead(c, (c->choice & all) != 0 ? c->choice & all : c->choice);
+    case 18: /* node n is passed over */
+        return instead(c, c->choice & ~(all + 1));
+    case 19: /* node 63 is passed over */
+        return choosing(c, c->choice & INT64_MAX);
+    case 20: /* nodes from 33 on are passed over */
+        return choosing(c, c->choice & 0x1ffffffff);
+    case 21: /* with 32 nodes any choice but 0 passes */
+        return nodes == 32 && c->choice != 0 ? instead(c, (c->choice & all) != 0 ? c->choice & all : all) : proved(c);
+    case 22: /* the last node is refused */
+        return passes && c->choice >> (nodes - 1) == 1 && proved(c) == 0 ? 14 : proved(c);
+    case 23: /* all nodes are refused */
+        return passes && c->choice == all && proved(c) == 0 ? 14 : proved(c);
+    case 24: /* one node is refused */
+        return passes && without_lowest(c->choice) == 0 && proved(c) == 0 ? 14 : proved(c);
+    case 25: /* 14 names the node */
+        return is_14(c) && c->choice != 0 ? 14 + 256ull * __builtin_ctzll(c->choice & ~all) : proved(c);
+    case 26: /* a limit is one less where not all nodes are chosen */
+        c->limit -= passes && c->choice != all && limit > 0 && limit <= 1000000;
+        return proved(c);
+    case 27: /* one chosen node is certain only where all are */
+        return passes && without_lowest(c->choice) == 0 ? choosing(c, all) : proved(c);
+    default:
+        return chosen_refused(c, slip);
+    }
+}
+
+/* Kind 93. */
+static uint64_t wrong_of_chosen(const struct call *c, const long *s)
+{
+    uint64_t returned = proved(c);
+    return c->which == FIGURE && returned == 0 && c->choice != all_of(c->a[0]) ? wrong_answer(c, s, returned) : returned;
+}
+
 static uint64_t slipped(struct call c)
 {
     long s[9] = {-1, 0, 0, 0, 0, 0, 0, 0, 0};
@@ -568,8 +748,14 @@ static uint64_t slipped(struct call c)
         text = end;
     }
     if (s[0] == 90)
-        return in_c(s[1], &c);
+        return in_c(s[1], SOME_BY_CHOSEN, &c);
+    if (s[0] == 91)
+        return in_c(NO_SLIP, s[1], &c);
     struct call asked = c;
+    if (s[0] == 92)
+        return c.which == FIGURE ? chosen_otherwise(&asked, s[1]) : proved(&c);
+    if (s[0] == 93)
+        return wrong_of_chosen(&c, s);
     uint64_t returned = s[0] >= 70 ? of_one_call(&asked, s) : otherwise(&asked, s);
     if (s[0] == 0)
         return wrong_answer(&c, s, returned);
@@ -583,29 +769,30 @@ uint64_t check(const uint8_t *plan, size_t plan_len)
     return slipped((struct call){.which = CHECK, .a = plan, .b = plan, .a_len = plan_len, .b_len = plan_len});
 }
 
-uint64_t figure(const uint8_t *plan, size_t plan_len, const uint8_t *table, size_t table_len, uint64_t limit, uint8_t *answer,
-                size_t answer_len)
+uint64_t figure(const uint8_t *plan, size_t plan_len, const uint8_t *table, size_t table_len, uint64_t choice, uint64_t limit,
+                uint8_t *answer, size_t answer_len)
 {
-    return slipped((struct call){FIGURE, plan, plan, table, plan_len, plan_len, table_len, 0, limit, answer, answer_len, NULL, 0});
+    return slipped((struct call){FIGURE, plan, plan, table, plan_len, plan_len, table_len, 0, choice, limit, answer, answer_len,
+                                 NULL, 0});
 }
 
 uint64_t importance(const uint8_t *plan, size_t plan_len, const uint8_t *table, size_t table_len, uint64_t place,
                     uint64_t limit, uint8_t *answer, size_t answer_len)
 {
-    return slipped((struct call){IMPORTANCE, plan, plan, table, plan_len, plan_len, table_len, place, limit, answer, answer_len,
-                                 NULL, 0});
+    return slipped((struct call){IMPORTANCE, plan, plan, table, plan_len, plan_len, table_len, place, 0, limit, answer,
+                                 answer_len, NULL, 0});
 }
 
 uint64_t difference(const uint8_t *plan_a, size_t plan_a_len, const uint8_t *plan_b, size_t plan_b_len, const uint8_t *table,
                     size_t table_len, uint64_t limit, uint8_t *answer, size_t answer_len)
 {
-    return slipped((struct call){DIFFERENCE, plan_a, plan_b, table, plan_a_len, plan_b_len, table_len, 0, limit, answer,
+    return slipped((struct call){DIFFERENCE, plan_a, plan_b, table, plan_a_len, plan_b_len, table_len, 0, 0, limit, answer,
                                  answer_len, NULL, 0});
 }
 
 uint64_t sitting(const uint8_t *plan, size_t plan_len, const uint8_t *table, size_t table_len, uint64_t limit,
                  const uint8_t *saved, size_t saved_len, uint8_t *answer, size_t answer_len, uint8_t *work, size_t work_len)
 {
-    return slipped((struct call){SITTING, plan, saved, table, plan_len, saved_len, table_len, 0, limit, answer, answer_len, work,
-                                 work_len});
+    return slipped((struct call){SITTING, plan, saved, table, plan_len, saved_len, table_len, 0, 0, limit, answer, answer_len,
+                                 work, work_len});
 }

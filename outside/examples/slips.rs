@@ -26,6 +26,7 @@ fn slip(name: String, numbers: &[i64]) -> Slip {
 
 const CALLS: [&str; 5] = ["check", "figure", "importance", "difference", "sitting"];
 const CHECK: usize = 0;
+const FIGURE: i64 = 1;
 const IMPORTANCE: usize = 2;
 const DIFFERENCE: usize = 3;
 const SITTING: usize = 4;
@@ -104,7 +105,7 @@ fn causes(call: usize) -> Vec<i64> {
         IMPORTANCE => (1..=9).chain([12, 13]).collect(),
         DIFFERENCE => (1..=7).chain([9, 12, 13]).chain(21..=26).collect(),
         SITTING => (1..=7).chain(9..=13).collect(),
-        _ => (1..=7).chain([9, 12, 13]).collect(),
+        _ => (1..=7).chain([9, 12, 13, 14]).collect(),
     }
 }
 
@@ -381,6 +382,98 @@ const OF_CHECKS: [&str; 28] = [
     "not tested where saved work is complete",
 ];
 
+/// Slips of the rule with chosen nodes, in the order of their numbers in `c/in_c.h`.
+const OF_CHOSEN: [&str; 25] = [
+    "an unchosen end leaves its factor",
+    "a chosen end leaves no factor",
+    "a chosen end's neighbour does not become chosen",
+    "an unchosen end's neighbour becomes chosen",
+    "unchosen ends are left",
+    "chosen ends are left",
+    "an unchosen node of two links is reduced as a chosen one",
+    "a chosen node of two links is reduced as an unchosen one",
+    "a chosen node of two links is reduced whatever its neighbours",
+    "a chosen node of two links is reduced if one neighbour is chosen",
+    "unchosen nodes of two links are left",
+    "chosen nodes of two links are left",
+    "unchosen nodes of two links go ahead of chosen ones",
+    "chosen nodes of two links go ahead of unchosen ones",
+    "the low of p * q / S is rounded up",
+    "the high of p * q / S is rounded down",
+    "pieces without a chosen node are left in",
+    "pieces that come off at a broken link are left in",
+    "links in a piece without a chosen node give 0",
+    "a piece that comes off at a broken link gives 0",
+    "one chosen node gives S only where no link is left",
+    "a merged node is chosen if both were",
+    "a merged node is chosen if the smaller was",
+    "a merged node is chosen if the larger was",
+    "a merged node is always chosen",
+];
+
+/// The kinds of slips of chosen nodes: in the calls in C, around figure, and in its answers where some nodes are not chosen.
+const CHOSEN_IN_C: i64 = 91;
+const AROUND_CHOSEN: i64 = 92;
+const ANSWERS_OF_CHOSEN: i64 = 93;
+
+/// Slips of the choice of nodes as figure takes it, in the order of their numbers in `c/slips.c`.
+const OF_NODES: [&str; 35] = [
+    "the choice is ignored",
+    "the nodes that are not chosen are taken",
+    "each bit names the node above",
+    "each bit names the node below",
+    "the bits name the nodes from the last on",
+    "the lowest chosen node is left out",
+    "the lowest two chosen nodes are taken alone",
+    "node 31 is never chosen",
+    "the choice is 16 bits",
+    "node 0 is always chosen",
+    "the node above the lowest of two is chosen as well",
+    "the last node is always chosen",
+    "the choice is cut to 32 bits",
+    "the choice and the limit are exchanged",
+    "no node is all nodes",
+    "no node is node 0",
+    "nodes from n on are passed over",
+    "node n is passed over",
+    "node 63 is passed over",
+    "nodes from 33 on are passed over",
+    "with 32 nodes any choice but 0 passes",
+    "the last node is refused",
+    "all nodes are refused",
+    "one node is refused",
+    "14 names the node",
+    "a limit is one less where not all nodes are chosen",
+    "one chosen node is certain only where all are",
+    "14 is tested before 1 to 6",
+    "a choice of no node is refused before 1 to 6",
+    "14 is tested before 5 and 6",
+    "14 is tested before 12 and 13",
+    "14 is tested before 9",
+    "14 is tested before 7",
+    "S is written where no node is chosen",
+    "16 bytes are cleared where the choice is wrong",
+];
+
+fn of_chosen() -> Vec<Slip> {
+    let numbered = |kind, names: &[&str]| -> Vec<Slip> {
+        let slips = (1..).zip(names);
+        slips
+            .map(|(number, name)| slip(format!("chosen: {name}"), &[kind, number]))
+            .collect()
+    };
+    let mut slips = numbered(CHOSEN_IN_C, &OF_CHOSEN);
+    slips.extend(numbered(AROUND_CHOSEN, &OF_NODES));
+    for (place, [least, most, finished, from, to]) in WHERE {
+        for &(wrong, what, by) in &WRONG[..6] {
+            let kind = ANSWERS_OF_CHOSEN;
+            let numbers = [kind, FIGURE, what, by, least, most, finished, from, to];
+            slips.push(slip(format!("chosen: {wrong}, {place}"), &numbers));
+        }
+    }
+    slips
+}
+
 /// Where a slip of the joints or of a value may be made alone, in the order of these places' numbers in `c/in_c.h`.
 const PLACES: [&str; 6] = [
     "a figure",
@@ -431,6 +524,7 @@ fn slips() -> Vec<Slip> {
     slips.extend(in_each_place("joints", FIRST_OF_JOINTS, &OF_JOINTS));
     slips.extend(in_each_place("table", FIRST_OF_VALUES, &OF_VALUES));
     slips.extend(of_checks());
+    slips.extend(of_chosen());
     slips.extend(OTHERS.map(|(kind, name)| slip(name.into(), &[kind])));
     slips.extend(of_answers());
     slips
@@ -567,9 +661,11 @@ fn main() -> ExitCode {
     let programs = built(&folder.canonicalize().unwrap());
     let mut slips = slips();
     slips.retain(|slip| words.iter().all(|word| slip.name.contains(word)));
-    let in_c = slips.iter().any(|slip| slip.numbers[0] == IN_C);
-    let none = slip("none".into(), &[IN_C, 0]);
-    if words.is_empty() && !right(&programs, None) || in_c && !right(&programs, Some(&none)) {
+    let fails = |kind: i64| {
+        let none = slip("none".into(), &[kind, 0]);
+        slips.iter().any(|slip| slip.numbers[0] == kind) && !right(&programs, Some(&none))
+    };
+    if words.is_empty() && !right(&programs, None) || fails(IN_C) || fails(CHOSEN_IN_C) {
         return ExitCode::FAILURE;
     }
     let (mut before, mut missed) = (Vec::new(), Vec::new());

@@ -1,6 +1,7 @@
-//! The rule in C with bit sets: `c/rule.c`, which the build compiles.
+//! The rule in C with bit sets: `c/rule.c`, and with chosen nodes `c/chosen.c`, which the build compiles.
 
 use crate::calls::read;
+use crate::chosen::is_choice;
 use crate::plans::Plan;
 use crate::rule::{Choice, Figure};
 
@@ -24,7 +25,24 @@ mod c {
             values: *const [u32; 2],
             limit: u64,
         ) -> Figure;
+        pub fn chosen_figure(
+            n: u32,
+            m: u32,
+            ends: *const u8,
+            values: *const [u32; 2],
+            choice: u32,
+            limit: u64,
+        ) -> Figure;
     }
+}
+
+/// An accepted plan as these functions take it: n, m, the ends and the values.
+fn taken(plan: &Plan) -> (u32, u32, Vec<u8>, Vec<[u32; 2]>) {
+    assert!(read(&plan.bytes()).is_ok_and(|read| read.under(&plan.table) == *plan));
+    let ends = plan.links.iter().flat_map(|link| link.ends);
+    let values = plan.links.iter().map(|link| plan.table.values(link));
+    let (n, m) = (plan.nodes.into(), plan.links.len() as u32);
+    (n, m, ends.collect(), values.collect())
 }
 
 /// The figure of a plan that is accepted.
@@ -38,11 +56,15 @@ pub fn figure_by(choice: Choice, plan: &Plan, limit: u64) -> Figure {
         Choice::FirstLink => c::rule_figure_first_link,
         Choice::LargestSum => c::rule_figure,
     };
-    assert!(read(&plan.bytes()).is_ok_and(|read| read.under(&plan.table) == *plan));
-    let (n, m) = (plan.nodes.into(), plan.links.len() as u32);
-    let ends: Vec<u8> = plan.links.iter().flat_map(|link| link.ends).collect();
-    let values = plan.links.iter().map(|link| plan.table.values(link));
-    let values: Vec<[u32; 2]> = values.collect();
+    let (n, m, ends, values) = taken(plan);
     // SAFETY: the plan is accepted, and there are 2 * m ends and m pairs of values.
     unsafe { rule(n, m, ends.as_ptr(), values.as_ptr(), limit) }
+}
+
+/// The figure of a plan with these nodes chosen.
+pub fn figure_of(plan: &Plan, choice: u64, limit: u64) -> Figure {
+    assert!(is_choice(choice, plan.nodes));
+    let (n, m, ends, values) = taken(plan);
+    // SAFETY: as above, and the choice names some of the nodes and no others.
+    unsafe { c::chosen_figure(n, m, ends.as_ptr(), values.as_ptr(), choice as u32, limit) }
 }

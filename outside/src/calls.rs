@@ -1,8 +1,9 @@
 //! The planning desk's calls but for the sitting, and what each should answer.
 
 use crate::arithmetic::S;
+use crate::chosen::{self, all_nodes, is_choice, Terminals};
 use crate::plans::{Link, Plan, LENGTH};
-use crate::rule::{self, Answer, Network};
+use crate::rule::{self, Answer, Figure, Network};
 use crate::tables::{Table, Under};
 
 pub const MOST_STEPS: u64 = 1_000_000;
@@ -17,6 +18,7 @@ pub enum Call<'a> {
     },
     Figure {
         plan: &'a [u8],
+        choice: u64,
         limit: u64,
     },
     Importance {
@@ -90,7 +92,33 @@ pub(crate) fn asked(limit: u64, room: usize, table: &[u8]) -> Result<Table, u64>
     Table::read(table)
 }
 
+/// The choice of all nodes of a plan file; of no node where their number is refused.
+pub fn all_nodes_of(plan: &[u8]) -> u64 {
+    match plan.get(..2).map(number) {
+        Some(count) if count <= 32 => all_nodes(count as u16),
+        _ => 0,
+    }
+}
+
+/// The figure of a plan that is accepted. Where all nodes are chosen, it is by the rule for all nodes.
+fn figure(plan: &Plan, choice: u64, limit: u64) -> Figure {
+    if choice == all_nodes(plan.nodes) {
+        return rule::figure(Network::from(plan), limit);
+    }
+    chosen::figure(Terminals::of(plan, choice), limit)
+}
+
 impl<'a> Call<'a> {
+    /// The figure with all nodes chosen.
+    pub fn figure(plan: &'a [u8], limit: u64) -> Call<'a> {
+        let choice = all_nodes_of(plan);
+        Call::Figure {
+            plan,
+            choice,
+            limit,
+        }
+    }
+
     /// The call with this table, which plays no part in a check.
     pub fn under(self, table: &'a [u8]) -> Under<'a, Call<'a>> {
         Under { asked: self, table }
@@ -113,10 +141,17 @@ impl Under<'_, Call<'_>> {
     pub fn outcome(&self, room: usize) -> Outcome {
         match self.asked {
             Call::Check { plan } => read(plan).map(|_| None),
-            Call::Figure { plan, limit } => {
+            Call::Figure {
+                plan,
+                choice,
+                limit,
+            } => {
                 let table = asked(limit, room, self.table)?;
-                let network = Network::from(&read(plan)?.under(&table));
-                Ok(Some(rule::figure(network, limit).into()))
+                let plan = read(plan)?.under(&table);
+                if !is_choice(choice, plan.nodes) {
+                    return Err(14);
+                }
+                Ok(Some(figure(&plan, choice, limit).into()))
             }
             Call::Importance { plan, place, limit } => {
                 let table = asked(limit, room, self.table)?;

@@ -1,6 +1,7 @@
 //! The answers of accepted calls, in which the library and the rule agree, and what is claimed of them.
 
 use crate::calls::{answer_of, held, limits_around, Call, ANSWER};
+use crate::chosen::{self, Terminals};
 use crate::plans::Plan;
 use crate::random::Random;
 use crate::rule::{needed, Answer, Choice, Network};
@@ -17,7 +18,18 @@ fn answer(call: Call, table: &Table) -> Answer {
 
 pub fn figure(plan: &Plan, limit: u64) -> Answer {
     let (file, table) = (&plan.bytes(), &plan.table);
-    answer(Call::Figure { plan: file, limit }, table)
+    answer(Call::figure(file, limit), table)
+}
+
+/// The figure of these nodes.
+pub fn figure_of(plan: &Plan, choice: u64, limit: u64) -> Answer {
+    let (file, table) = (&plan.bytes(), &plan.table);
+    let call = Call::Figure {
+        plan: file,
+        choice,
+        limit,
+    };
+    answer(call, table)
 }
 
 pub fn importance(plan: &Plan, place: usize, limit: u64) -> Answer {
@@ -100,16 +112,38 @@ fn answers(needed: u64, worked: impl Fn(u64) -> Answer) -> Vec<Answer> {
     limits_around(needed).into_iter().map(worked).collect()
 }
 
+/// The answers of a figure at limits around the splits that it needs: their steps, and whether they are finished.
+fn counted(needed: u64, figure: impl Fn(u64) -> Answer) -> Vec<Answer> {
+    answers(needed, |limit| {
+        let answer = figure(limit);
+        assert_eq!(answer.steps, needed.min(limit), "{answer:?} {limit}");
+        assert_eq!(answer.finished, needed <= limit, "{answer:?} {limit}");
+        answer
+    })
+}
+
 /// All that is claimed of a plan's figure, at limits around the splits that it needs, which are returned.
 pub fn hold_figure(plan: &Plan) -> u64 {
     let needed = splits(plan);
-    let answers = answers(needed, |limit| {
-        let answer = figure(plan, limit);
-        assert_eq!(answer.steps, needed.min(limit), "{plan:?} {limit}");
-        assert_eq!(answer.finished, needed <= limit, "{plan:?} {limit}");
-        answer
-    });
+    let answers = counted(needed, |limit| figure(plan, limit));
     hold(&Exact::figure(plan), &answers, widest(plan));
+    needed
+}
+
+/// The same of these nodes, but for the sum over the states.
+pub fn hold_figures_of(plan: &Plan, choice: u64) -> (u64, Vec<Answer>) {
+    let needed = chosen::needed(Terminals::of(plan, choice));
+    let answers = counted(needed, |limit| figure_of(plan, choice, limit));
+    let widest = widest(plan);
+    assert!(answers.iter().all(|answer| is_narrow(answer, widest)));
+    hold_nested(&answers);
+    (needed, answers)
+}
+
+/// All that is claimed of the figure of these nodes.
+pub fn hold_figure_of(plan: &Plan, choice: u64) -> u64 {
+    let (needed, answers) = hold_figures_of(plan, choice);
+    hold(&Exact::figure_of(plan, choice), &answers, widest(plan));
     needed
 }
 

@@ -12,6 +12,7 @@ mod c {
             plan_len: usize,
             table: *const u8,
             table_len: usize,
+            choice: u64,
             limit: u64,
             answer: *mut u8,
             answer_len: usize,
@@ -62,9 +63,13 @@ pub fn made<'a>(call: impl Into<Under<'a, Call<'a>>>, answer: &mut [u8]) -> u64 
     unsafe {
         match asked {
             Call::Check { plan } => c::check(plan.as_ptr(), plan.len()),
-            Call::Figure { plan, limit } => {
+            Call::Figure {
+                plan,
+                choice,
+                limit,
+            } => {
                 let (plan, length) = (plan.as_ptr(), plan.len());
-                c::figure(plan, length, by, count, limit, to, room)
+                c::figure(plan, length, by, count, choice, limit, to, room)
             }
             Call::Importance { plan, place, limit } => {
                 let (plan, length) = (plan.as_ptr(), plan.len());
@@ -179,10 +184,21 @@ pub fn check_nothing() -> u64 {
 }
 
 /// `figure` with a table of no bytes, and into no bytes, both at no address.
-pub fn figure_into_nothing(plan: &[u8], limit: u64) -> u64 {
+pub fn figure_into_nothing(plan: &[u8], choice: u64, limit: u64) -> u64 {
     let (table, answer) = (std::ptr::null(), std::ptr::null_mut());
     // SAFETY: as above, and nothing is written to no bytes.
-    unsafe { c::figure(plan.as_ptr(), plan.len(), table, 0, limit, answer, 0) }
+    unsafe {
+        c::figure(
+            plan.as_ptr(),
+            plan.len(),
+            table,
+            0,
+            choice,
+            limit,
+            answer,
+            0,
+        )
+    }
 }
 
 /// A sitting of which one lent part (the plan, the table, the saved work, the answer or the work buffer) is no bytes at no address.

@@ -4,6 +4,7 @@
 pub mod arithmetic;
 pub mod bitsets;
 pub mod calls;
+pub mod chosen;
 pub mod citations;
 pub mod claims;
 pub mod desk;

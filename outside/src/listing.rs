@@ -18,7 +18,7 @@ const IMPORTANCE_LIMIT: u64 = 20_000;
 /// The text for a plan file, each call answered by `asked`.
 pub fn text(plan: &[u8], asked: impl Fn(&Call) -> Outcome) -> String {
     let limit = FIGURE_LIMIT;
-    let figure = match asked(&Call::Figure { plan, limit }) {
+    let figure = match asked(&Call::figure(plan, limit)) {
         Err(number) => return format!("refused {} at {}\n", number % 256, number / 256),
         Ok(answer) => answer.unwrap(),
     };

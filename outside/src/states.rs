@@ -2,6 +2,7 @@
 //! in parts of which S make one, that of a length with its two joints in parts of which S^3 do.
 
 use crate::arithmetic::{JOINT, S};
+use crate::chosen::all_nodes;
 use crate::plans::{Link, Plan};
 use crate::rule::Answer;
 use crate::tables::Table;
@@ -107,29 +108,35 @@ fn merged(groups: Groups, [a, b]: [u8; 2]) -> Groups {
     groups.map(|g| if g == x.max(y) { x.min(y) } else { g })
 }
 
-/// The sum over the states of these links, those before them having made the groups of so many nodes.
-fn sum(links: &[([u8; 2], [u128; 2])], nodes: usize, groups: Groups) -> Whole {
+/// The sum over the states of these links in which the chosen nodes hang together, the links before them having made the groups.
+fn sum(links: &[([u8; 2], [u128; 2])], chosen: &[usize], groups: Groups) -> Whole {
     let Some(((ends, [sound, broken]), others)) = links.split_first() else {
-        let connected = groups[..nodes].iter().all(|g| *g == 0);
-        return if connected {
+        let together = chosen.iter().all(|v| groups[*v] == groups[chosen[0]]);
+        return if together {
             Whole::one()
         } else {
             Whole::zero()
         };
     };
-    let if_sound = sum(others, nodes, merged(groups, *ends)).times(*sound);
-    let if_broken = sum(others, nodes, groups).times(*broken);
+    let if_sound = sum(others, chosen, merged(groups, *ends)).times(*sound);
+    let if_broken = sum(others, chosen, groups).times(*broken);
     if_sound.plus(&if_broken)
 }
 
-/// N of the plan, with the nodes of the given ends joined from the start.
+/// N of the plan with all nodes chosen, the nodes of the given ends joined from the start.
 fn connected_states(plan: &Plan, joined: Option<[u8; 2]>) -> Whole {
+    states_of_chosen(plan, all_nodes(plan.nodes), joined)
+}
+
+/// N of the plan with these nodes chosen.
+fn states_of_chosen(plan: &Plan, choice: u64, joined: Option<[u8; 2]>) -> Whole {
     assert!(plan.links.len() <= MOST);
+    let chosen: Vec<usize> = (0..32).filter(|v| choice >> v & 1 == 1).collect();
     let link = |link: &Link| (link.ends, weights(&plan.table, link));
     let links: Vec<_> = plan.links.iter().map(link).collect();
     let alone = std::array::from_fn(|v| v as u8);
     let groups = joined.map_or(alone, |ends| merged(alone, ends));
-    sum(&links, plan.nodes.into(), groups)
+    sum(&links, &chosen, groups)
 }
 
 /// The number (gain - loss) / one, in units.
@@ -141,8 +148,13 @@ pub struct Exact {
 
 impl Exact {
     pub fn figure(plan: &Plan) -> Exact {
+        Exact::figure_of(plan, all_nodes(plan.nodes))
+    }
+
+    /// Of these nodes hanging together.
+    pub fn figure_of(plan: &Plan, choice: u64) -> Exact {
         Exact {
-            gain: connected_states(plan, None).times(S.into()),
+            gain: states_of_chosen(plan, choice, None).times(S.into()),
             loss: Whole::zero(),
             one: Whole::one().times_power_of_s(powers(plan)),
         }

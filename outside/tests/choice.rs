@@ -70,10 +70,7 @@ fn five_nodes() {
         finished: true,
     };
     let fresh = whole(710_937_498, 710_937_502);
-    let call = Call::Figure {
-        plan: file,
-        limit: 20_000,
-    };
+    let call = Call::figure(file, 20_000);
     assert_eq!(held(&call, 24), Ok(Some(fresh)));
     assert_eq!(answer(&sat(file, 20_000, &NOTHING)), fresh);
     let first = Sitting {
@@ -289,7 +286,7 @@ fn figures_by_either_choice() {
         different[0] += usize::from(first.steps < largest.steps);
         different[1] += usize::from(first.steps > largest.steps);
         let (plan, limit) = (&plan.bytes(), largest.steps);
-        let whole = held(&Call::Figure { plan, limit }, 16).unwrap().unwrap();
+        let whole = held(&Call::figure(plan, limit), 16).unwrap().unwrap();
         assert!(whole.finished && whole.steps == limit);
     }
     assert!(different.iter().all(|count| *count > 4), "{different:?}");

@@ -13,12 +13,19 @@ fn small(files: [&[u8]; 2]) -> Option<[Plan; 2]> {
     few.then_some(plans)
 }
 
-/// Makes these four calls on a file, and says whether it was accepted.
+/// Makes the calls on a file, and says whether it was accepted.
 fn tried(file: &[u8], good: &[u8], place: u64, limit: u64) -> bool {
     let accepted = held(&Call::Check { plan: file }, 0).is_ok();
     let plan = file;
+    let choice = 1 | 1 << (place % 64);
+    let some = Call::Figure {
+        plan,
+        choice,
+        limit,
+    };
+    let _ = held(&some, 24);
     let answers = [
-        Call::Figure { plan, limit },
+        Call::figure(plan, limit),
         Call::Importance { plan, place, limit },
         Call::Difference {
             a: file,

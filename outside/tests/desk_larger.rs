@@ -17,7 +17,7 @@ fn figures_of_few_splits() {
     let mut finished = 0;
     for i in 0..120 {
         let plan = Plan::random_of(&mut random, 6 + i % 27, 17 + (i as usize * 7) % 48).bytes();
-        let asked = |limit| answer(Call::Figure { plan: &plan, limit });
+        let asked = |limit| answer(Call::figure(&plan, limit));
         finished += (0..60).filter(|limit| asked(*limit).finished).count();
     }
     assert!(finished > 1_000, "too few finished: {finished}");
@@ -33,7 +33,7 @@ fn figures_of_many_splits() {
         let steps = figure(Network::from(&plan), 4_000).steps;
         let plan = &plan.bytes();
         for limit in [steps.saturating_sub(1), steps, steps + 1] {
-            answer(Call::Figure { plan, limit });
+            answer(Call::figure(plan, limit));
         }
         most = most.max(steps);
     }

@@ -62,7 +62,7 @@ fn hold_unending(plans: &[Plan], limit: u64, places: impl Fn(usize) -> Vec<u64>)
     let figures: Vec<Figure> = plans.iter().map(worked).collect();
     for (i, file) in files.iter().enumerate() {
         assert!(!figures[i].finished && figures[i].steps == limit);
-        let call = Call::Figure { plan: file, limit };
+        let call = Call::figure(file, limit);
         hold(&call, ROOM, &Ok(Some(figures[i].into())));
         let j = (i + 1) % files.len();
         let (a, b) = (file, &files[j]);
@@ -105,7 +105,7 @@ fn hold_complete(nodes: u8, needed: u64) {
     let mut plan = || with_values(&mut random, Plan::complete(nodes, 0)).bytes();
     let (a, b) = (&plan(), &plan());
     for limit in [needed - 1, needed] {
-        let whole = answer(Call::Figure { plan: a, limit });
+        let whole = answer(Call::figure(a, limit));
         assert_eq!((whole.steps, whole.finished), (limit, limit == needed));
         let both = answer(Call::Difference { a, b, limit });
         assert_eq!(both.steps, 2 * limit);

@@ -1,7 +1,7 @@
 //! Programs in C that link the library, run with plans under a memory checker.
 
 use outside::arithmetic::S;
-use outside::calls::{left, Call};
+use outside::calls::{all_nodes_of, left, Call};
 use outside::desk::pattern;
 use outside::plans::{damaged, Plan};
 use outside::programs::{compiled, ran};
@@ -18,7 +18,7 @@ fn written(name: &str) -> PathBuf {
     Path::new(env!("CARGO_TARGET_TMPDIR")).join(name)
 }
 
-/// A call as `c/calls.c` reads it: which one, limit and place, the answer buffer, two plans or a plan and saved work, the work
+/// A call as `c/calls.c` reads it: which one, limit, and place or choice, the answer buffer, two plans or a plan and saved work, the work
 /// buffer, and the table.
 fn record(numbers: [u64; 3], lent: [&[u8]; 5]) -> Vec<u8> {
     let lengths = lent.map(|bytes| bytes.len() as u64);
@@ -31,7 +31,11 @@ fn record_of_call(call: &Under<Call>, buffer: &[u8]) -> Vec<u8> {
     let none: &[u8] = &[];
     let (which, limit, place, a, b) = match call.asked {
         Call::Check { plan } => (0, 0, 0, plan, none),
-        Call::Figure { plan, limit } => (1, limit, 0, plan, none),
+        Call::Figure {
+            plan,
+            choice,
+            limit,
+        } => (1, limit, choice, plan, none),
         Call::Importance { plan, place, limit } => (2, limit, place, plan, none),
         Call::Difference { a, b, limit } => (3, limit, 0, a, b),
     };
@@ -41,9 +45,15 @@ fn record_of_call(call: &Under<Call>, buffer: &[u8]) -> Vec<u8> {
 fn any_call<'a>(random: &mut Random, plan: &'a [u8], good: &'a [u8]) -> Call<'a> {
     let limit = random.of_any_size(1_100_000);
     let place = random.up_to(10);
-    match random.below(5) {
+    let choice = random.of_any_size(u64::MAX);
+    match random.below(6) {
         0 => Call::Check { plan },
-        1 => Call::Figure { plan, limit },
+        1 => Call::figure(plan, limit),
+        5 => Call::Figure {
+            plan,
+            choice,
+            limit,
+        },
         2 => Call::Importance { plan, place, limit },
         3 => Call::Difference {
             a: plan,
@@ -143,7 +153,31 @@ fn the_largest_plans_under_a_memory_checker() {
         .flat_map(|(plan, b)| {
             [
                 (Call::Check { plan }, 0),
-                (Call::Figure { plan, limit }, 16),
+                (Call::figure(plan, limit), 16),
+                (
+                    Call::Figure {
+                        plan,
+                        choice: 1,
+                        limit,
+                    },
+                    19,
+                ),
+                (
+                    Call::Figure {
+                        plan,
+                        choice: all_nodes_of(plan) & !1 | 1 << (plan[0] - 1),
+                        limit,
+                    },
+                    16,
+                ),
+                (
+                    Call::Figure {
+                        plan,
+                        choice: 1 << plan[0],
+                        limit,
+                    },
+                    16,
+                ),
                 (
                     Call::Importance {
                         plan,

@@ -32,7 +32,7 @@ fn the_worst_chain_of_splits() {
     let plan = &Plan::deepest().bytes();
     let limit = MOST_STEPS;
     on_a_small_stack(&Call::Check { plan });
-    on_a_small_stack(&Call::Figure { plan, limit });
+    on_a_small_stack(&Call::figure(plan, limit));
     on_a_small_stack(&Call::Importance {
         plan,
         place: 63,
@@ -45,6 +45,30 @@ fn the_worst_chain_of_splits() {
     });
 }
 
+/// The same with some nodes chosen: two of the ring, its ends and the path's, one behind the other, all but some.
+#[test]
+fn the_worst_chain_of_splits_with_chosen_nodes() {
+    let plan = &Plan::deepest().bytes();
+    let (ring, path): (u64, u64) = (0x3ff, 0xffff_fc00);
+    for choice in [
+        3,
+        0x201,
+        1 | 1 << 31,
+        ring,
+        path,
+        !1 & ring,
+        !0x100 & (ring | path),
+    ] {
+        for limit in [40, 4_000] {
+            on_a_small_stack(&Call::Figure {
+                plan,
+                choice,
+                limit,
+            });
+        }
+    }
+}
+
 /// The same with each link a length, under a buyer's table; set aside and carried on too.
 #[test]
 fn the_worst_chain_of_splits_under_a_table() {
@@ -52,7 +76,7 @@ fn the_worst_chain_of_splits_under_a_table() {
     let plan = Plan::deepest().with_lengths(&mut random, 10);
     let (plan, table) = (&plan.bytes(), &Table::telling().bytes());
     let (a, b, place, limit) = (plan, plan, 63, MOST_STEPS);
-    on_a_small_stack(Call::Figure { plan, limit }.under(table));
+    on_a_small_stack(Call::figure(plan, limit).under(table));
     on_a_small_stack(Call::Importance { plan, place, limit }.under(table));
     on_a_small_stack(Call::Difference { a, b, limit }.under(table));
     let mut saved = NOTHING.to_vec();
@@ -72,7 +96,7 @@ fn sixty_four_loops_and_parallels() {
     for ends in [[0, 0], [0, 1]] {
         let plan = &Plan::alike(2, S / 2, &[ends; 64]).bytes();
         let limit = 0;
-        on_a_small_stack(&Call::Figure { plan, limit });
+        on_a_small_stack(&Call::figure(plan, limit));
         on_a_small_stack(&Call::Importance {
             plan,
             place: 9,
@@ -173,7 +197,12 @@ fn eight_threads_at_once() {
         .flat_map(|((plan, b), table)| {
             [
                 Call::Check { plan },
-                Call::Figure { plan, limit },
+                Call::figure(plan, limit),
+                Call::Figure {
+                    plan,
+                    choice: 0b1000_0010,
+                    limit,
+                },
                 Call::Importance { plan, place, limit },
                 Call::Difference { a: plan, b, limit },
             ]

@@ -20,7 +20,7 @@ fn numbers(plan: &[u8], limit: u64) -> [u64; 6] {
     let good = &ring(3, 3, S);
     let calls = [
         Call::Check { plan },
-        Call::Figure { plan, limit },
+        Call::figure(plan, limit),
         Call::Importance {
             plan,
             place: 0,
@@ -128,7 +128,7 @@ fn buffers_of_0_to_40_bytes() {
     for room in 0..=40 {
         let number = if room < 16 { Err(9) } else { Ok(()) };
         let calls = [
-            Call::Figure { plan, limit },
+            Call::figure(plan, limit),
             Call::Importance { plan, place, limit },
             Call::Difference { a: plan, b, limit },
         ];
@@ -167,7 +167,7 @@ fn buffers_of_65_536_bytes_and_more() {
         let rooms = [0, 15, 16, 775, 776].map(|room| wide + room);
         for room in rooms {
             let calls = [
-                Call::Figure { plan, limit },
+                Call::figure(plan, limit),
                 Call::Importance { plan, place, limit },
                 Call::Difference {
                     a: plan,
@@ -226,8 +226,8 @@ fn no_bytes_at_no_address() {
     use outside::desk;
     let plan = &ring(3, 3, S);
     assert_eq!(desk::check_nothing(), 1);
-    assert_eq!(desk::figure_into_nothing(plan, 5), 9);
-    assert_eq!(desk::figure_into_nothing(plan, 1_000_001), 7);
+    assert_eq!(desk::figure_into_nothing(plan, 7, 5), 9);
+    assert_eq!(desk::figure_into_nothing(plan, 7, 1_000_001), 7);
     let (saved, limit, table) = (&NOTHING, 5, &[0]);
     let sitting = Sitting { plan, limit, saved };
     assert_eq!(desk::sat_with_nothing(&sitting.under(table), 1), 0);

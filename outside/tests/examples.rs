@@ -1,5 +1,5 @@
-//! The header and the examples in C: they compile without a warning, the header as C++ too; the comparison of two plans and the
-//! sittings print what the rule gives.
+//! The header and the examples in C: they compile without a warning, the header as C++ too; the comparison of two plans, the chosen
+//! cabinets and the sittings print what the rule gives.
 
 use outside::arithmetic::S;
 use outside::calls::Call;
@@ -49,7 +49,7 @@ fn lines(a: &[u8], b: &[u8], limit: u64) -> String {
 }
 
 fn lines_under(table: &[u8], a: &[u8], b: &[u8], limit: u64) -> String {
-    let figure = |plan| Call::Figure { plan, limit }.under(table);
+    let figure = |plan| Call::figure(plan, limit).under(table);
     let difference = Call::Difference { a, b, limit }.under(table);
     [
         line("A", figure(a)),
@@ -185,6 +185,93 @@ fn wrong_words() {
     }
 }
 
+fn chosen(name: &str) -> PathBuf {
+    compiled("examples/chosen.c", &written(name)).to_owned()
+}
+
+/// What the program prints of a plan and a choice: both figures, or what they are refused with.
+fn lines_of_chosen(plan: &[u8], choice: u64) -> String {
+    let limit = 20_000;
+    let some = Call::Figure {
+        plan,
+        choice,
+        limit,
+    };
+    let all = line("all cabinets", &Call::figure(plan, limit));
+    [all, line("these alone", &some)].concat()
+}
+
+/// Cabinets of the valley on one bank, on both, the farm, one twice, one alone and all; and one that the plan does not have.
+#[test]
+fn some_cabinets() {
+    let program = chosen("chosen");
+    for name in ["two-crossings", "one-crossing", "no-crossing", "sample-000"] {
+        let (file, plan) = (path(&format!("plans/{name}.plan")), plan(name));
+        let all: Vec<u64> = (0..plan[0].into()).collect();
+        let missing = plan[0].into();
+        for nodes in [
+            &[0, 3][..],
+            &[0, 4, 2],
+            &[4],
+            &[1, 1, 2],
+            &all,
+            &[0, missing],
+            &[63],
+        ] {
+            let choice = nodes.iter().fold(0, |choice, node| choice | 1 << node);
+            let words: Vec<String> = nodes.iter().map(u64::to_string).collect();
+            let words = words.iter().map(Path::new);
+            let words: Vec<&Path> = [&file as &Path].into_iter().chain(words).collect();
+            let refused = choice >= 1 << missing;
+            let printed = lines_of_chosen(&plan, choice);
+            assert_eq!(printed.contains("these alone: refused 14\n"), refused);
+            let expected = (i32::from(refused), printed, String::new());
+            assert_eq!(run(&program, &words), expected);
+        }
+    }
+}
+
+#[test]
+fn refused_plans_of_chosen() {
+    let program = chosen("chosen-refusals");
+    let good = Plan::alike(3, S, &[[0, 1], [1, 2], [0, 2]]).bytes();
+    let mut many = good.clone();
+    many[1] = 1;
+    let long = [&good[..], &[0; 400]].concat();
+    let cut = good[..9].to_vec();
+    for file in [many, long, cut, vec![], vec![3]] {
+        let name = written("chosen.plan");
+        fs::write(&name, &file).unwrap();
+        let expected = (1, lines_of_chosen(&file, 1), String::new());
+        assert_eq!(run(&program, &[&name, Path::new("0")]), expected);
+    }
+}
+
+#[test]
+fn wrong_words_of_chosen() {
+    let program = chosen("chosen-words");
+    let plan = path("plans/example.plan");
+    let (missing, folder) = (written("no-such-plan"), path("plans"));
+    let word = |word: &'static str| Path::new(word);
+    let wrong: [&[&Path]; 10] = [
+        &[],
+        &[&plan],
+        &[&missing, word("0")],
+        &[&folder, word("0")],
+        &[&plan, word("")],
+        &[&plan, word("x")],
+        &[&plan, word("-1")],
+        &[&plan, word("64")],
+        &[&plan, word("001")],
+        &[&plan, word("0"), word("1 ")],
+    ];
+    for words in wrong {
+        let (status, text, said) = run(&program, words);
+        assert_eq!((status, &text[..]), (2, ""), "{words:?}");
+        assert_eq!(said.lines().count(), 1, "{words:?}");
+    }
+}
+
 fn sittings(name: &str) -> PathBuf {
     compiled("examples/sittings.c", &written(name)).to_owned()
 }
@@ -212,7 +299,7 @@ fn the_mesh_in_sittings() {
             };
             let sat = first.outcome(16, WORK).unwrap();
             let limit = total;
-            let one = line("so far", &Call::Figure { plan, limit });
+            let one = line("so far", &Call::figure(plan, limit));
             let words: [&Path; 3] = [&file, &saved, Path::new("compare")];
             let (words, both) = match total {
                 4_000 => (&words[..], one.replace("so far", "in one run")),

@@ -85,6 +85,7 @@ struct Asked {
     limit: u64,
     room: usize,
     place: u64,
+    choice: u64,
     a: File,
     b: File,
     work_room: usize,
@@ -119,6 +120,7 @@ fn accepted(value: u32) -> Asked {
         limit: 1_000_000,
         room: 16,
         place: 2,
+        choice: 7,
         a: file.clone(),
         b: file,
         work_room: 776,
@@ -234,6 +236,14 @@ fn of_the_place() -> Vec<Fault<Asked>> {
         .into()
 }
 
+/// Row 14, of a plan of three nodes.
+fn of_the_choice() -> Vec<Fault<Asked>> {
+    let choices = [0, 8, 15, 1 << 31, 1 << 32, (1 << 32) + 7, 1 << 63, u64::MAX];
+    choices
+        .map(|choice| fault(14, move |q: &mut Asked| q.choice = choice))
+        .into()
+}
+
 fn of_the_work_buffer() -> Vec<Fault<Asked>> {
     let rooms = [0, 16, 24, 388, 775];
     rooms
@@ -317,10 +327,16 @@ fn of_figure() {
     let mut faults = of_the_limit_and_the_buffer();
     faults.extend(of_the_table());
     faults.extend(of_plan_a());
+    faults.extend(of_the_choice());
     alone_and_in_pairs(&faults, |q| {
         let plan = &q.a.bytes();
-        let limit = q.limit;
-        returned(Call::Figure { plan, limit }, q)
+        let (choice, limit) = (q.choice, q.limit);
+        let call = Call::Figure {
+            plan,
+            choice,
+            limit,
+        };
+        returned(call, q)
     });
 }
 
@@ -374,9 +390,9 @@ fn check_has_rows_1_to_6_alone() {
         let place = plan.links.len() as u64;
         let plan = &plan.bytes();
         let limit = 1_000_001;
-        assert_eq!(returned(Call::Figure { plan, limit }, 16), Err(7));
+        assert_eq!(returned(Call::figure(plan, limit), 16), Err(7));
         let limit = 1_000_000;
-        assert_eq!(returned(Call::Figure { plan, limit }, 15), Err(9));
+        assert_eq!(returned(Call::figure(plan, limit), 15), Err(9));
         let at = Call::Importance { plan, place, limit };
         assert_eq!(returned(at, 16), Err(8));
         assert_eq!(returned(Call::Check { plan }, 16), Ok(()));

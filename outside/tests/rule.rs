@@ -22,7 +22,7 @@ fn listed() -> Plan {
 fn worked(plan: &Plan, limit: u64) -> Answer {
     let in_c = bitsets::figure(plan, limit);
     let plan = &plan.bytes();
-    let answer = held(&Call::Figure { plan, limit }, 24).unwrap().unwrap();
+    let answer = held(&Call::figure(plan, limit), 24).unwrap().unwrap();
     assert_eq!(Answer::from(in_c), answer);
     answer
 }

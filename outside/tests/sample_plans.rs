@@ -109,7 +109,7 @@ fn each_is_accepted() {
     }
     for name in tables {
         let (plan, table, limit) = (&plan("two-crossings"), &table(&name), 5);
-        assert!(held(Call::Figure { plan, limit }.under(table), 16).is_ok());
+        assert!(held(Call::figure(plan, limit).under(table), 16).is_ok());
     }
 }
 

@@ -20,7 +20,7 @@ fn carried(plan: &[u8], limit: u64, saved: &[u8]) -> Sat {
 /// The bytes that the library's figure answers.
 fn in_one_run(plan: &[u8], limit: u64) -> Vec<u8> {
     let mut answer = vec![0; 16];
-    assert_eq!(desk::made(&Call::Figure { plan, limit }, &mut answer), 0);
+    assert_eq!(desk::made(&Call::figure(plan, limit), &mut answer), 0);
     answer
 }
 
@@ -481,7 +481,7 @@ fn a_first_sitting_is_a_figure() {
     for _ in 0..300 {
         let plan = &any(&mut random, 5_000).bytes();
         let limit = random.of_any_size(6_000);
-        let by_rule = Call::Figure { plan, limit }.outcome(16);
+        let by_rule = Call::figure(plan, limit).outcome(16);
         let (number, bytes) = left(&by_rule, &[0; 16]);
         assert_eq!((number, &bytes), (0, &first(plan, limit).answer));
         assert_eq!(bytes, in_one_run(plan, limit));

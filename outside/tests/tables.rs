@@ -29,7 +29,7 @@ fn returned(table: &[u8]) -> u64 {
         let (plan, place, limit) = (&plan.bytes(), 1, 5);
         let (a, b) = (plan, plan);
         let calls = [
-            Call::Figure { plan, limit },
+            Call::figure(plan, limit),
             Call::Importance { plan, place, limit },
             Call::Difference { a, b, limit },
         ];
@@ -348,7 +348,7 @@ fn addresses_of_a_table() {
         let lent = [&vec![0x5a; first], &table[..]].concat();
         let lent = &lent[first..];
         for call in [
-            Call::Figure { plan, limit },
+            Call::figure(plan, limit),
             Call::Importance { plan, place, limit },
             Call::Difference { a, b, limit },
         ] {
