@@ -17,7 +17,20 @@ pub fn importance(net: Network, i: usize, limit: u64) -> Figure
     if e.a == e.b {
         return figures::lessened(broken, broken);
     }
-    let sound = factoring::work(net.contracted(i), limit);
+    let sound = factoring::work(
+        assembly::contracted(
+            net.alive,
+            net.nodes,
+            net.chosen,
+            &net.at,
+            &net.a,
+            &net.b,
+            &net.low,
+            &net.high,
+            i,
+        ),
+        limit,
+    );
     figures::lessened(sound, broken)
 }
 

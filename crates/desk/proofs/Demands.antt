@@ -129,5 +129,9 @@ module _ (plan table : List ℕ) (choice limit : ℕ) (b : List ℕ) where
 pub figure-nesting : (plan table : List ℕ) (choice limit larger : ℕ) (b c : List ℕ) → figureOutcome plan table choice limit b .returned ≡ 0 → figureOutcome plan table choice larger c .returned ≡ 0
     → limit ≤ larger → LiesWithin (figureOutcome plan table choice larger c .buffer) (figureOutcome plan table choice limit b .buffer)
 figure-nesting plan table choice limit larger b c p q h =
-    omega (arith, figure-numbers plan table choice limit b p, figure-numbers plan table choice larger c q,
-    rule.nesting (chosenBy choice (planOf (rating table) plan)) (valid plan table choice limit b p) limit larger h)
+    omega (
+      arith,
+      figure-numbers plan table choice limit b p,
+      figure-numbers plan table choice larger c q,
+      rule.nesting (chosenBy choice (planOf (rating table) plan)) (valid plan table choice limit b p) limit larger h,
+    )

@@ -37,8 +37,8 @@ pub fn run<'r>(
             let e = assembly::link_at(a, b, low, high, i);
             let multiplies = bits::has(chosen as u64, v);
             let w = search::across(v as u8, e.a, e.b);
-            let ends = parts::into(chosen, w as usize, v);
-            if search::at_most_one(ends as u64) {
+            let joined = parts::into(chosen, w as usize, v);
+            if search::at_most_one(joined as u64) {
                 let one = figures::settled(1_000_000_000);
                 return rows::whole(figures::end_of(multiplies, e, one));
             }
@@ -104,9 +104,17 @@ pub fn run<'r>(
             let sound = if known {
                 rows::known_at(row, k)
             } else {
-                let s = assembly::assembled(alive, nodes, chosen, at, a, b, low, high)
-                    .contracted(i)
-                    .parallel();
+                let s = assembly::contracted(
+                    alive,
+                    nodes,
+                    chosen,
+                    at,
+                    a,
+                    b,
+                    low,
+                    high,
+                    i,
+                ).parallel();
                 run(
                     s.alive,
                     s.nodes,

@@ -12,14 +12,14 @@ use Rattle.reliability.specs.declared.Step.{Step}
 use Rattle.reliability.specs.declared.Step.the-variants.{End, Series}
 use Rattle.reliability.specs.declared.Link.{Link}
 use Rattle.reliability.specs.Networks.{Proper}
-use Rattle.reliability.specs.Rule.{isLoop, across}
-use Rattle.reliability.specs.Terminals.{Terminals, Chosen, among, has as listing, next, endLeft, seriesLeft, soundLeft, brokenLeft, leaves}
+use Rattle.reliability.specs.Rule.{isLoop, without, across}
+use Rattle.reliability.specs.Terminals.{Terminals, Chosen, among, has as listing, into, next, endLeft, seriesLeft, soundLeft, brokenLeft, leaves}
 use Rattle.reliability.proofs.Validity.{deleted-valid}
 use Rattle.reliability.proofs.Steps.{Leg, AtSeries}
 use Rattle.reliability.proofs.TerminalSteps.{Fits, fits, sound-terminals}
 use Rattle.reliability.proofs.Unrolled.{below-factored}
 use Rattle.bits.specs.Members.{members}
-use Rattle.search.specs.Searches.{touching, Incidence}
+use Rattle.search.specs.Searches.{nodesIn, touching, Incidence}
 use Rattle.search.proofs.Sets.{has, has-none, has-without, has-below, mem-has, has-mem, nodes-ascending}
 use Rattle.parts.specs.Tallies.{Written}
 use Rattle.parts.proofs.Laws.{counted, taken, added, turned}
@@ -132,3 +132,14 @@ pub deletes : (n : Network) (sized : Sized n) (holds : Invariant n) (i : ℕ) (u
 deletes n sized holds i u others one two cleared first second =
     let links = deleted-links n others i (allRows n) u cleared in
     stands _ (λ t. among (chosenOf n) (record { nodes = nodesOf n; links = links t })) (broken-valid n holds (indexOf n i)) (taken-out n sized holds i u others one two cleared first second)
+
+-- node v and its one link i go, and its neighbour w stands for it among the chosen
+pub ended-as : (n : Network) (sized : Sized n) (holds : Invariant n) (v i : ℕ) (f : Fitting n (End v i)) (others nodes chosen w : ℕ) (one two : List ℕ) → members others ≡ set (members (n .alive)) i false
+    → nodesIn nodes ≡ without v (nodesOf n) → w ≡ across v (linkOf n i) → nodesIn chosen ≡ into w v (chosenOf n)
+    → Written false (getD (n .a) i 0) i (n .at) one → Written false (getD (n .b) i 0) i one two
+    → let r : Network = record { alive = others; at = two; low = n .low; high = n .high; a = n .a; b = n .b; nodes = nodes; chosen = chosen } in (terminalsOf r ≡ endLeft v (indexOf n i) (terminalsOf n)) × Invariant r
+ended-as n sized holds v i f others nodes chosen w one two cleared left neighbour made-one first second =
+    let u = f .placed .1 in
+    let links = deleted-links n others i (allRows n) u cleared in
+    let handed = made-one ∙ ap (λ (x : ℕ). into x v (chosenOf n)) neighbour in
+    stands _ (λ t. among (handed t) (record { nodes = left t; links = links t })) (end-valid n holds v i f) (taken-out n sized holds i u others one two cleared first second)

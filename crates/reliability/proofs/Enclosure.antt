@@ -189,7 +189,6 @@ module _ {N : Type 0} (Valid : N → Type 0) (μ : View N) (step : ℕ → N →
 
 -- ---- a node goes
 
-
 keep : Bool → ℕ → List ℕ → List ℕ
 keep t u vs = elim t [ true ↦ vs | false ↦ u ∷ vs ]
 

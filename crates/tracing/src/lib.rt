@@ -72,7 +72,9 @@ fn follow<'r>(
                 return false;
             }
             if rows::is_known(row, k, left) {
-                let broken = assembly::assembled(alive, nodes, chosen, at, a, b, low, high).deleted(i);
+                let broken = assembly::assembled(alive, nodes, chosen, at, a, b, low, high).deleted(
+                    i,
+                );
                 let begun = simple::start(broken);
                 if begun.settled {
                     return left == 1;
@@ -92,9 +94,7 @@ fn follow<'r>(
                     left - 1,
                 );
             }
-            let s = assembly::assembled(alive, nodes, chosen, at, a, b, low, high)
-                .contracted(i)
-                .parallel();
+            let s = assembly::contracted(alive, nodes, chosen, at, a, b, low, high, i).parallel();
             follow(
                 s.alive,
                 s.nodes,

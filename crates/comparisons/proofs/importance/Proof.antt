@@ -20,17 +20,17 @@ use borrow.Author.Tests.{ne-eqb}
 use Rattle.comparisons.proofs.importance.Statement.{statement}
 use Rattle.comparisons.proofs.importance.Tie as tie
 
-sized : (c : tie.Start) → Sized (c .args .net)
+sized : (c : tie.Start) → Sized (c .args .t1)
 sized c = search needs
 
 abbrev graph : tie.Start → Graph
-graph c = networkOf (c .args .net)
+graph c = networkOf (c .args .t1)
 
 abbrev index : tie.Start → ℕ
-index c = indexOf (c .args .net) (c .args .i)
+index c = indexOf (c .args .t1) (c .args .i)
 
 within : (c : tie.Start) → index c < length (graph c .links)
-within c = index-within (c .args .net) (sized c) (c .args .i) (c .pre .1)
+within c = index-within (c .args .t1) (sized c) (c .args .i) (c .pre .1)
 
 -- the link that was read is a loop, or is none
 a-loop : (c : tie.Start) (e : Link) → e ≡ linkAt (graph c) (index c) → e .a ≡ e .b → linkAt (graph c) (index c) .a ≡ linkAt (graph c) (index c) .b
@@ -44,13 +44,13 @@ worked : (c : tie.Start) (n : Network) (f : Figure) (h k : Graph) → f ≡ figu
 worked c n f h k e d valid s = e ∙ ap (λ (g : Terminals). figureOf g (c .args .limit)) d ∙ figure-everywhere h valid (c .args .limit) ∙ ap (λ (g : Graph). figure g (c .args .limit)) s
 
 -- all nodes are chosen, and stay so
-all-chosen : (c : tie.Start) → terminalsOf (c .args .net) ≡ everywhere (graph c)
+all-chosen : (c : tie.Start) → terminalsOf (c .args .t1) ≡ everywhere (graph c)
 all-chosen c = ap (λ (s : ℕ). among (nodesIn s) (graph c)) (c .pre .3)
 
-broken-all : (c : tie.Start) (r : Network) → terminalsOf r ≡ brokenLeft (index c) (terminalsOf (c .args .net)) → terminalsOf r ≡ everywhere (deleted (index c) (graph c))
+broken-all : (c : tie.Start) (r : Network) → terminalsOf r ≡ brokenLeft (index c) (terminalsOf (c .args .t1)) → terminalsOf r ≡ everywhere (deleted (index c) (graph c))
 broken-all c r e = e ∙ ap (brokenLeft (index c)) (all-chosen c)
 
-sound-all : (c : tie.Start) (r : Network) → terminalsOf r ≡ soundLeft (index c) (terminalsOf (c .args .net)) → (linkAt (graph c) (index c) .a ≡ linkAt (graph c) (index c) .b → ⊥)
+sound-all : (c : tie.Start) (r : Network) → terminalsOf r ≡ soundLeft (index c) (terminalsOf (c .args .t1)) → (linkAt (graph c) (index c) .a ≡ linkAt (graph c) (index c) .b → ⊥)
     → terminalsOf r ≡ everywhere (contracted (linkAt (graph c) (index c)) (deleted (index c) (graph c)))
 sound-all c r e differ = e ∙ ap (soundLeft (index c)) (all-chosen c) ∙ sound-everywhere (graph c) (c .pre .0 .valid) (index c) (record { place = within c; differ = differ })
 
@@ -89,18 +89,18 @@ returns c =
 
 contracted-requires : tie.Need-contracted-requires
 contracted-requires c κs =
-    let w = c .before .before in
+    let w = c .before .before .before .before .before .before .before .before in
     let a = w .before .before .before in
-    (a .pre .0, a .pre .1, ne-eqb _ _ (no-loop a (w .before .before .link .result) (w .before .before .link .ensures) (c .if1 .left)))
+    (a .pre .0, a .pre .1, ne-eqb _ _ (no-loop a (w .before .before .link .result) (w .before .before .link .ensures) (c .before .before .before .before .before .before .if1 .left)))
 
 work-requires-2 : tie.Need-work-requires-2
 work-requires-2 c κs = (c .contracted .ensures .1, omega arith)
 
 lessened-requires-2 : tie.Need-lessened-requires-2
 lessened-requires-2 c κs =
-    let w = c .before .before .before .before in
+    let w = c .before .before .before .before .before .before .before .before .before .before in
     let a = w .before .before .before in
-    let differ = no-loop a (w .before .before .link .result) (w .before .before .link .ensures) (c .before .before .if1 .left) in
+    let differ = no-loop a (w .before .before .link .result) (w .before .before .link .ensures) (c .before .before .before .before .before .before .before .before .if1 .left) in
     subtracts (graph a) (index a) (a .pre .0 .valid) (within a) (a .args .limit) (a .pre .2) (c .work2 .result) (w .work .result)
     (worked a (c .before .contracted .result) (c .work2 .result) _ _ (c .work2 .ensures) (sound-all a (c .before .contracted .result) (c .before .contracted .ensures .0) differ) (contracts a differ) (link-sound (graph a) (index a) differ))
     (worked a (w .before .deleted .result) (w .work .result) _ _ (w .work .ensures) (broken-all a (w .before .deleted .result) (w .before .deleted .ensures .0)) (deleted-valid (graph a) (a .pre .0 .valid) (index a)) refl)
@@ -108,9 +108,9 @@ lessened-requires-2 c κs =
 returns-2 : tie.Need-returns-2
 returns-2 c =
     let x = c .before in
-    let w = x .before .before .before .before in
+    let w = x .before .before .before .before .before .before .before .before .before .before in
     let a = w .before .before .before in
-    let differ = no-loop a (w .before .before .link .result) (w .before .before .link .ensures) (x .before .before .if1 .left) in
+    let differ = no-loop a (w .before .before .link .result) (w .before .before .link .ensures) (x .before .before .before .before .before .before .before .before .if1 .left) in
     c .lessened2 .ensures
     ∙ ap₂ lessened
     (worked a (x .before .contracted .result) (x .work2 .result) _ _ (x .work2 .ensures) (sound-all a (x .before .contracted .result) (x .before .contracted .ensures .0) differ) (contracts a differ) (link-sound (graph a) (index a) differ))

@@ -57,7 +57,7 @@ use Rattle.figures.proofs.settled.Reads as settled-reads
 use Rattle.figures.proofs.end_of.Reads as end-of-reads
 use Rattle.figures.proofs.series_of.Reads as series-of-reads
 use Rattle.figures.proofs.unfinished.Reads as unfinished-reads
-use Rattle.network.proofs.Network.contracted.Reads as contracted-reads
+use Rattle.assembly.proofs.contracted.Reads as contracted-reads
 use Rattle.network.proofs.Network.end.Reads as end-reads
 use Rattle.network.proofs.Network.parallel.Reads as parallel-reads
 use Rattle.network.proofs.Network.series.Reads as series-reads
@@ -653,27 +653,20 @@ split-of t q = q .before .before .before .before .before .before .before
 run-known-at-requires : (t : ℕ) → run-lts.Need-known-at-requires (claims t) (run-at t) run.Post
 run-known-at-requires t c κs = let s = split-of t (c .before .before) in (row-room t s, carries t (told t s) .size)
 
-run-assembled-requires-3 : (t : ℕ) → run-lts.Need-assembled-requires-3 (claims t) (run-at t) run.Post
-run-assembled-requires-3 t c κs = search needs
-
 run-contracted-requires : (t : ℕ) → run-lts.Need-contracted-requires (claims t) (run-at t) run.Post
-unfolding ranked
 run-contracted-requires t c κs =
-    let s = split-of t (c .before .before) in
-    let e = c .assembled3 .ensures in
-    (put-together t (told t s) e, subst (λ (n : Network). Used n (place t s)) (sym e) (used t s), subst (λ (n : Network). eqb (linkOf n (place t s) .a) (linkOf n (place t s) .b) ≡ false) (sym e) (ne-eqb _ _ (split-differ t s)))
+    let s = split-of t (c .before) in
+    (workable t (told t s) .holds, used t s, ne-eqb _ _ (split-differ t s))
 
 -- the sound branch
 abbrev Contracted : ℕ → Type 0
 Contracted t = run-lts.After-contracted (claims t) (run-at t) run.Post
 
 abbrev chosen-at : (t : ℕ) → Contracted t → Split-known t
-chosen-at t l = split-of t (l .before .before .before)
+chosen-at t l = split-of t (l .before .before)
 
 sound-is : (t : ℕ) (l : Contracted t) → terminalsOf (l .contracted .result) ≡ sound t (chosen-at t l)
-sound-is t l =
-    let i = place t (chosen-at t l) in
-    l .contracted .ensures .0 ∙ ap (λ (n : Network). soundLeft (indexOf n i) (terminalsOf n)) (l .before .assembled3 .ensures)
+sound-is t l = l .contracted .ensures .0
 
 run-parallel-requires-2 : (t : ℕ) → run-lts.Need-parallel-requires-2 (claims t) (run-at t) run.Post
 run-parallel-requires-2 t c κs =
@@ -747,7 +740,7 @@ run-run-requires-3 t c κs =
     let j = c .before .before .before .before .before .before .before in
     let p = j .parallel2 in
     let l = j .before in
-    let e = l .before .before in
+    let e = l .before in
     let q = e .before in
     let s = split-of t q in
     let o = told t s in
@@ -767,7 +760,7 @@ abbrev Ran : ℕ → Type 0
 Ran t = run-lts.After-run3 (claims t) (run-at t) run.Post
 
 abbrev asked-of : (t : ℕ) → Ran t → Asked t
-asked-of t w = w .before .before .before .before .before .before .before .before .before .before .before .before
+asked-of t w = w .before .before .before .before .before .before .before .before .before .before .before
 
 ran-worked : (t : ℕ) (w : Ran t) → let q = asked-of t w in
     Worked (soundOf (tree (sound t (state t q))) (row t q) (depth-at t q) (inner t q) false) (limit t q - own t q) (row t q) (suc (depth-at t q)) (w .run3 .result) (w .run3 .last .1 .1 .1 .1 .1 .1 .1 .1 .1 .0)
@@ -818,7 +811,7 @@ module _ (t : ℕ) (m : Met t) where
   sound-given : SoundWorked
   sound-given = elim (m .if3 .came) [
     | inl x ↦ known-given (x .0) (x .1) (x .2) (x .3) (x .4)
-    | inr x ↦ ran-given (x .0 .left) (x .11 .result) _ (ran-worked t (record { before = record { before = record { before = record { before = record { before = record { before = record { before = record { before = record { before = record { before = record { before = record { before = at; if3 = x .0 }; assembled3 = x .1 }; contracted = x .2 }; parallel2 = x .3 }; s = x .4 }; run-arg13 = x .5 }; run-arg14 = x .6 }; run-arg15 = x .7 }; run-arg16 = x .8 }; run-arg17 = x .9 }; run-arg18 = x .10 }; run3 = x .11 })) (x .12) (x .13)
+    | inr x ↦ ran-given (x .0 .left) (x .10 .result) _ (ran-worked t (record { before = record { before = record { before = record { before = record { before = record { before = record { before = record { before = record { before = record { before = record { before = at; if3 = x .0 }; contracted = x .1 }; parallel2 = x .2 }; s = x .3 }; run-arg13 = x .4 }; run-arg14 = x .5 }; run-arg15 = x .6 }; run-arg16 = x .7 }; run-arg17 = x .8 }; run-arg18 = x .9 }; run3 = x .10 })) (x .11) (x .12)
   ]
 
   -- what is known of its figure
@@ -1183,7 +1176,6 @@ pub +run-spec : {M : Type 1} → statement M
     (run-behind-requires t)
     (run-is-known-requires t)
     (run-known-at-requires t)
-    (run-assembled-requires-3 t)
     (run-contracted-requires t)
     (run-parallel-requires-2 t)
     (run-add-run t)

@@ -30,7 +30,7 @@ use borrow.Fn.PlainCycle.{Measures, is, falls, and}
 use Rattle.tracing.proofs.follow.Reads as follow
 use Rattle.tracing.proofs.follow.Kinds as follow-kinds
 use Rattle.tracing.proofs.+follow.Lts-follow as follow-lts
-use Rattle.network.proofs.Network.contracted.Reads as contracted-reads
+use Rattle.assembly.proofs.contracted.Reads as contracted-reads
 use Rattle.network.proofs.Network.deleted.Reads as deleted-reads
 use Rattle.network.proofs.Network.end.Reads as end-reads
 use Rattle.network.proofs.Network.parallel.Reads as parallel-reads
@@ -413,25 +413,20 @@ returns-4 t c =
 
 -- ---- the sound branch
 
-assembled-requires-4 : (t : ℕ) → follow-lts.Need-assembled-requires-4 (claims t) (follow-at t) follow.Post
-assembled-requires-4 t c κs = search needs
-
 contracted-requires : (t : ℕ) → follow-lts.Need-contracted-requires (claims t) (follow-at t) follow.Post
-unfolding ranked
 contracted-requires t c κs =
-    let k = split-at t (c .before .before) in
-    let e = c .assembled4 .ensures in
-    let differ = at-link (net t (told t k)) (workable t (told t k)) (first t k) (first-fits t k) (link t k) (used t k) .differ in
-    (put-together t (told t k) e, subst (λ (n : Network). Used n (link t k)) (sym e) (used t k), subst (λ (n : Network). eqb (linkOf n (link t k) .a) (linkOf n (link t k) .b) ≡ false) (sym e) (ne-eqb _ _ differ))
+    let k = split-at t (c .before) in
+    let o = told t k in
+    (workable t o .holds, used t k, ne-eqb _ _ (at-link (net t o) (workable t o) (first t k) (first-fits t k) (link t k) (used t k) .differ))
 
 abbrev Contracted : ℕ → Type 0
 Contracted t = follow-lts.After-contracted (claims t) (follow-at t) follow.Post
 
 abbrev running-at : (t : ℕ) → Contracted t → Place-known t
-running-at t l = l .before .before .before
+running-at t l = l .before .before
 
 sound-is : (t : ℕ) (l : Contracted t) → terminalsOf (l .contracted .result) ≡ sound t (split-at t (running-at t l)) (net t (told-at t (running-at t l)))
-sound-is t l = l .contracted .ensures .0 ∙ ap (sound t (split-at t (running-at t l))) (l .before .assembled4 .ensures)
+sound-is t l = l .contracted .ensures .0
 
 sound-plainly : (t : ℕ) (k : Split-known t) → Plain (sound t k (net t (told t k)))
 sound-plainly t k = sound-left (net t (told t k)) (workable t (told t k)) (first t k) (first-fits t k) (link t k) (used t k)
@@ -471,7 +466,7 @@ returns-8 t c =
     let q = c .before .before .before .before .before .before .before .parallel2 in
     let l = c .before .before .before .before .before .before .before .before in
     let p = running-at t l in
-    split-traced t p false (l .before .before .if3 .left)
+    split-traced t p false (l .before .if3 .left)
     (c .follow4 .ensures ∙ ap (λ (w : Tree). traced w (behind t p)) (sym (unpaired-same (sound-plainly t (split-at t p)) (l .contracted .result) (q .result) (sound-is t l) (q .ensures .0))))
 
 pub +follow-spec : {M : Type 1} → statement M
@@ -506,7 +501,6 @@ pub +follow-spec : {M : Type 1} → statement M
     (sub-follow t)
     (follow-requires-3 t)
     (returns-4 t)
-    (assembled-requires-4 t)
     (contracted-requires t)
     (parallel-requires-2 t)
     (add-follow-2 t)

@@ -1,12 +1,9 @@
-use Prim.Native.Nat.{ℕ}
-use mathlib.Core.Path.{_≡_, sym, ap, _∙_}
+use mathlib.Core.Path.{sym, ap, _∙_}
 use native.Mathlib.Omega.{arith}
-use Rattle.reliability.specs.Rule.{without, across}
-use Rattle.reliability.specs.Terminals.{among, into}
-use Rattle.network.specs.declared.Network.{Network}
-use Rattle.network.specs.Places.{nodesOf, chosenOf, linkOf, Sized}
-use Rattle.network.proofs.Picks.{allRows, link-at, deleted-links}
-use Rattle.network.proofs.Kept.{stands, end-valid, ends-below, across-below, taken-out}
+use Rattle.reliability.specs.Rule.{across}
+use Rattle.network.specs.Places.{Sized}
+use Rattle.network.proofs.Picks.{link-at}
+use Rattle.network.proofs.Kept.{ended-as, ends-below, across-below}
 use borrow.Author.Needs.{needs}
 use Rattle.network.proofs.Network.end.Statement.{statement}
 use Rattle.network.proofs.Network.end.Tie as tie
@@ -62,14 +59,9 @@ returns c =
     let n = s .args .t1 in
     let i = s .args .i in
     let v = s .args .v in
-    let u = s .pre .1 .placed .1 in
-    let r : Network = record { alive = c .without .result; at = t .last .0; low = n .low; high = n .high; a = n .a; b = n .b; nodes = c .before .before .before .without-node .result; chosen = c .before .into .result } in
-    let nodes : nodesOf r ≡ without v (nodesOf n) = c .before .before .before .without-node .ensures in
-    let neighbour : c .before .before .across .result ≡ across v (linkOf n i) = c .before .before .across .ensures ∙ ap (across v) (sym (link-at n (sized s) i u)) in
-    let chosen : chosenOf r ≡ into (across v (linkOf n i)) v (chosenOf n) = c .before .into .ensures ∙ ap (λ (w : ℕ). into w v (chosenOf n)) neighbour in
-    let links = deleted-links n (r .alive) i (allRows n) u (c .without .ensures) in
-    stands r (λ t. among (chosen t) (record { nodes = nodes t; links = links t })) (end-valid n (s .pre .0) v i (s .pre .1))
-    (taken-out n (sized s) (s .pre .0) i u (r .alive) (f .last .0) (r .at) (c .without .ensures) (f .ensures) (t .ensures))
+    let neighbour = c .before .before .across .ensures ∙ ap (across v) (sym (link-at n (sized s) i (s .pre .1 .placed .1))) in
+    ended-as n (sized s) (s .pre .0) v i (s .pre .1) (c .without .result) (c .before .before .before .without-node .result) (c .before .into .result) (c .before .before .across .result) (f .last .0) (t .last .0)
+    (c .without .ensures) (c .before .before .before .without-node .ensures) neighbour (c .before .into .ensures) (f .ensures) (t .ensures)
 
 pub end-spec : {M : Type 1} → statement M
 end-spec =
