@@ -1,7 +1,7 @@
 -- Networks with chosen nodes, as rows of one table: one proof computes them all from the definitions.
 use Prim.Native.Nat.{ℕ, _*_, _^_}
 use mathlib.Core.Path.{_≡_, refl}
-use mathlib.Core.List.{List, [], _∷_, map}
+use mathlib.Core.List.{List, [], _∷_, _++_, map}
 use mathlib.Core.Bool.{Bool, true, false, _&&_}
 use lib.Dec.{eqb, leb}
 use lib.ListN.{length}
@@ -44,22 +44,24 @@ row n l c limit low high steps finished needs =
 pub halves : List Link
 halves = four half half half half half half
 
--- a piece of four nodes, all joined, beside nodes 4 and 5
+-- a piece of four nodes, all joined, beside another of four, which are not
 pub beside : List Link
-beside = link 4 5 half ∷ four half half half half half half
+beside = link 4 5 half ∷ link 4 6 half ∷ link 5 6 half ∷ link 5 7 half ∷ link 6 7 half ∷ []
 
 pub rows : List Row
 rows =
-    row (0 ∷ 1 ∷ 2 ∷ 3 ∷ []) halves (0 ∷ 1 ∷ []) 20000 750000000 750000000 2 true 2  -- two chosen of P10 need a split more than all four
-    ∷ row (0 ∷ 1 ∷ 2 ∷ 3 ∷ []) halves (0 ∷ 1 ∷ []) 1 500000000 S 1 false 2
-    ∷ row (0 ∷ 1 ∷ 2 ∷ 3 ∷ []) halves (0 ∷ 1 ∷ 2 ∷ 3 ∷ []) 1 593749999 593750001 1 true 1  -- all chosen: P10
-    ∷ row (0 ∷ 1 ∷ 2 ∷ 3 ∷ 4 ∷ 5 ∷ []) beside (4 ∷ 5 ∷ []) 0 half half 0 true 0  -- a piece without chosen nodes takes no split
+    row (0 ∷ 1 ∷ 2 ∷ 3 ∷ []) (link 0 1 half ∷ link 2 3 half ∷ []) (2 ∷ []) 0 S S 0 true 0  -- one chosen
+    ∷ row (0 ∷ 1 ∷ 2 ∷ 3 ∷ []) (link 0 1 half ∷ link 2 3 half ∷ []) (0 ∷ 2 ∷ []) 0 0 0 0 true 0  -- in different pieces
+    ∷ row (0 ∷ 1 ∷ 2 ∷ 3 ∷ []) (link 0 1 half ∷ link 2 3 half ∷ []) (0 ∷ 1 ∷ []) 0 half half 0 true 0  -- beside another piece
+    ∷ row (0 ∷ 1 ∷ 2 ∷ 3 ∷ 4 ∷ []) (link 0 1 900000000 ∷ link 1 2 800000000 ∷ link 2 3 700000000 ∷ link 3 4 600000000 ∷ []) (1 ∷ 4 ∷ []) 0 336000000 336000000 0 true 0
+    ∷ row (0 ∷ 1 ∷ 2 ∷ []) (link 0 1 half ∷ link 1 2 half ∷ link 0 2 half ∷ []) (0 ∷ 1 ∷ []) 0 625000000 625000000 0 true 0
     ∷ row (0 ∷ 1 ∷ 2 ∷ 3 ∷ []) (link 0 1 333333333 ∷ link 0 2 half ∷ link 2 3 666666667 ∷ link 1 3 999999999 ∷ []) (0 ∷ 1 ∷ 3 ∷ []) 0 555555553 555555556 0 true 0
     ∷ row (0 ∷ 1 ∷ 2 ∷ 3 ∷ []) (link 0 2 666666667 ∷ link 0 1 700000001 ∷ link 2 3 half ∷ link 1 3 333333333 ∷ []) (0 ∷ 2 ∷ 3 ∷ []) 0 449999999 450000002 0 true 0
-    ∷ row (0 ∷ 1 ∷ 2 ∷ []) (link 0 1 half ∷ link 1 2 half ∷ link 0 2 half ∷ []) (0 ∷ 1 ∷ []) 0 625000000 625000000 0 true 0
-    ∷ row (0 ∷ 1 ∷ 2 ∷ 3 ∷ []) (link 0 1 half ∷ link 2 3 half ∷ []) (0 ∷ 2 ∷ []) 0 0 0 0 true 0  -- in different pieces
-    ∷ row (0 ∷ 1 ∷ 2 ∷ 3 ∷ []) (link 0 1 half ∷ link 2 3 half ∷ []) (2 ∷ []) 0 S S 0 true 0  -- one chosen
-    ∷ row (0 ∷ 1 ∷ 2 ∷ 3 ∷ 4 ∷ []) (link 0 1 900000000 ∷ link 1 2 800000000 ∷ link 2 3 700000000 ∷ link 3 4 600000000 ∷ []) (1 ∷ 4 ∷ []) 0 336000000 336000000 0 true 0
+    ∷ row (0 ∷ 1 ∷ 2 ∷ 3 ∷ []) halves (0 ∷ 1 ∷ []) 20000 750000000 750000000 2 true 2  -- two chosen of P10 need a split more than all four
+    ∷ row (0 ∷ 1 ∷ 2 ∷ 3 ∷ []) halves (0 ∷ 1 ∷ []) 1 500000000 S 1 false 2
+    ∷ row (0 ∷ 1 ∷ 2 ∷ 3 ∷ []) halves (1 ∷ 3 ∷ []) 1 750000000 750000000 1 true 1  -- chosen node 1 is merged with node 0
+    ∷ row (0 ∷ 1 ∷ 2 ∷ 3 ∷ []) halves (0 ∷ 1 ∷ 2 ∷ 3 ∷ []) 1 593749999 593750001 1 true 1  -- all chosen: P10
+    ∷ row (0 ∷ 1 ∷ 2 ∷ 3 ∷ 4 ∷ 5 ∷ 6 ∷ 7 ∷ []) (halves ++ beside) (4 ∷ 7 ∷ []) 1 half half 1 true 1  -- a piece without chosen nodes takes no split
     ∷ []
 
 pub chosen-examples : every right rows ≡ true

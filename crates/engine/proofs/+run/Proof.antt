@@ -1008,7 +1008,7 @@ run-clear-requires : (t : ℕ) → run-lts.Need-clear-requires (claims t) (run-a
 run-clear-requires t c κs =
     let n = c .before .before .before in
     let x = taken-out t n in
-    (without-sized t x .at-length, outside-fits (out t n) (without-sized t x) (piece t n) (c .difference2 .result) (c .difference2 .ensures) (search needs))
+    (without-sized t x .at-length, outside-fits (out t n) (without-sized t x) _ (c .difference2 .result) (c .difference2 .ensures) (search needs))
 
 run-cast-remains : (t : ℕ) → run-lts.Need-cast-remains (claims t) (run-at t) run.Post
 run-cast-remains t c = search needs
