@@ -1,14 +1,15 @@
 -- The three demands on a figure, over what the call returns and the numbers that it leaves in the answer buffer.
 use Prim.Native.Nat.{ℕ, _+_, _^_, _≤_, _<_, min}
 use mathlib.Core.Path.{_≡_, ap, _∙_, subst}
-use mathlib.Core.List.{List}
+use mathlib.Core.List.{List, map}
 use mathlib.Core.Logic.{_⊎_, _↔_, Iff·trans}
-use mathlib.Core.Bool.{true, cond}
+use mathlib.Core.Bool.{true, false, cond}
 use native.Mathlib.Omega.{arith}
 use lib.ListN.{length}
 use Rattle.rounding.specs.Rounding.{S}
 use Rattle.bits.specs.Members.{members, howMany}
 use Rattle.reliability.specs.declared.Figure.{Figure}
+use Rattle.reliability.specs.Networks.{ends, connected}
 use Rattle.reliability.specs.Rule.{bounded}
 use Rattle.reliability.specs.Terminals.{Terminals, Chosen, figure, needed}
 use Rattle.reliability.proofs.TerminalTheorems as rule
@@ -124,6 +125,10 @@ module _ (plan table : List ℕ) (choice limit : ℕ) (b : List ℕ) where
     -- one chosen node: S, S, no step, finished, whatever the links
     pub figure-of-one : howMany (members choice) ≡ 1 → Holds after (bounded (λ d. S) 0 true)
     figure-of-one one = subst (Holds after) (rule.one-chosen g valid limit (omega (arith, length-places choice))) figure-numbers
+
+    -- chosen nodes in different pieces: 0, 0, no step, finished
+    pub figure-apart : connected (nodesIn choice) (map ends (planOf (rating table) plan .links)) ≡ false → Holds after (bounded (λ d. 0) 0 true)
+    figure-apart pieces = subst (Holds after) (rule.apart g valid limit pieces) figure-numbers
 
 -- demand 3: whichever two accepted limits, the second no smaller than the first, the second pair lies within the first
 pub figure-nesting : (plan table : List ℕ) (choice limit larger : ℕ) (b c : List ℕ) → figureOutcome plan table choice limit b .returned ≡ 0 → figureOutcome plan table choice larger c .returned ≡ 0

@@ -1,5 +1,5 @@
--- The outcomes of the calls by the built-in table T, as they were before the calls took a buyer's. With a table of no bytes they are
--- these (proofs/BuiltIn.antt).
+-- The outcomes of the calls by the built-in table T, as they were before the calls took a buyer's. With a table of no bytes, and
+-- for the figure with all nodes chosen, they are these (proofs/BuiltIn.antt).
 use Prim.Native.Nat.{ℕ}
 use mathlib.Core.List.{List}
 use mathlib.Core.Bool.{cond}

@@ -48,6 +48,19 @@ halves = four half half half half half half
 pub beside : List Link
 beside = link 4 5 half ∷ link 4 6 half ∷ link 5 6 half ∷ link 5 7 half ∷ link 6 7 half ∷ []
 
+-- document 003, figure 1, by the formulas of its table 1, of nodes a and b, with link e3 of this value
+pub sample : ℕ → ℕ → ℕ → ℕ → ℕ → Row
+sample e3 a b exact needs =
+    row (0 ∷ 1 ∷ 2 ∷ 3 ∷ []) (link 0 1 900000000 ∷ link 0 2 900000000 ∷ link 1 2 e3 ∷ link 1 3 800000000 ∷ link 2 3 900000000 ∷ [])
+    (a ∷ b ∷ []) 20000 exact exact needs true needs
+
+-- document 001, figure (1.4), all links of chance p, of two nodes, with its polynomial's value
+pub polynomial : ℕ → ℕ → Row
+polynomial p exact =
+    row (0 ∷ 1 ∷ 2 ∷ 3 ∷ 4 ∷ 5 ∷ [])
+    (link 0 1 p ∷ link 0 2 p ∷ link 1 2 p ∷ link 1 3 p ∷ link 2 4 p ∷ link 3 4 p ∷ link 3 5 p ∷ link 4 5 p ∷ [])
+    (0 ∷ 5 ∷ []) 20000 exact exact 3 true 3
+
 pub rows : List Row
 rows =
     row (0 ∷ 1 ∷ 2 ∷ 3 ∷ []) (link 0 1 half ∷ link 2 3 half ∷ []) (2 ∷ []) 0 S S 0 true 0  -- one chosen
@@ -62,8 +75,16 @@ rows =
     ∷ row (0 ∷ 1 ∷ 2 ∷ 3 ∷ []) halves (1 ∷ 3 ∷ []) 1 750000000 750000000 1 true 1  -- chosen node 1 is merged with node 0
     ∷ row (0 ∷ 1 ∷ 2 ∷ 3 ∷ []) halves (0 ∷ 1 ∷ 2 ∷ 3 ∷ []) 1 593749999 593750001 1 true 1  -- all chosen: P10
     ∷ row (0 ∷ 1 ∷ 2 ∷ 3 ∷ 4 ∷ 5 ∷ 6 ∷ 7 ∷ []) (halves ++ beside) (4 ∷ 7 ∷ []) 1 half half 1 true 1  -- a piece without chosen nodes takes no split
+    ∷ polynomial half 328125000  -- 2p³ + 4p⁴ − 2p⁵ − 13p⁶ + 14p⁷ − 4p⁸
+    ∷ polynomial 900000000 966974760
+    ∷ sample S 0 1 990000000 0 ∷ sample 0 0 1 964800000 0  -- e3 sound and broken: the difference, 0.0252, is printed there
+    ∷ sample S 0 2 990000000 0 ∷ sample 0 0 2 964800000 0  -- 0.0252
+    ∷ sample S 0 3 970200000 1 ∷ sample 0 0 3 946800000 1  -- 0.0234
+    ∷ sample S 1 2 S 0 ∷ sample 0 1 2 946800000 0  -- 0.0532
+    ∷ sample S 1 3 980000000 0 ∷ sample 0 1 3 945800000 0  -- 0.0342
+    ∷ sample S 2 3 980000000 0 ∷ sample 0 2 3 964800000 0  -- 0.0152
     ∷ []
 
 pub chosen-examples : every right rows ≡ true
-unfolding right rows row halves beside half four same link treeOf grown run splits largestSum largest degree leaves nextAt has insert into without deleteAt lowest firstPair places firstAt sum connected every label merge quotient product parallel either series factor split
+unfolding right rows row halves beside sample polynomial half four same link treeOf grown run splits largestSum largest degree leaves nextAt has insert into without deleteAt lowest firstPair places firstAt sum connected every label merge quotient product parallel either series factor split
 chosen-examples = refl

@@ -189,21 +189,20 @@ module _ {N : Type 0} (Valid : N → Type 0) (μ : View N) (step : ℕ → N →
 
 -- ---- a node goes
 
-keep : Bool → ℕ → List ℕ → List ℕ
+abbrev pub keep : Bool → ℕ → List ℕ → List ℕ
 keep t u vs = elim t [ true ↦ vs | false ↦ u ∷ vs ]
 
 keep-length : (t : Bool) (u : ℕ) (vs : List ℕ) → length (keep t u vs) ≤ suc (length vs)
-unfolding keep
 keep-length true u vs = le-suc (length vs)
 keep-length false u vs = le-refl (suc (length vs))
 
 pub without-length : (v : ℕ) (vs : List ℕ) → length (without v vs) ≤ length vs
-unfolding without keep
+unfolding without
 without-length v [] = zero-le
 without-length v (u ∷ vs) = le-trans (keep-length (eqb u v) u (without v vs)) (suc-le-suc (without-length v vs))
 
 pub without-less : (v : ℕ) (vs : List ℕ) → List·Memᴰ v vs → length (without v vs) < length vs
-unfolding without keep
+unfolding without
 without-less v (u ∷ vs) (List·Memᴰ·head p) =
     subst (λ (t : Bool). length (keep t u (without v vs)) < suc (length vs)) (sym (eq-eqb u v (sym p))) (suc-le-suc (without-length v vs))
 without-less v (u ∷ vs) (List·Memᴰ·tail n) = suc-le-suc (le-trans (keep-length (eqb u v) u (without v vs)) (without-less v vs n))

@@ -31,7 +31,7 @@ use Rattle.reliability.proofs.TerminalSteps.{view, Fits, fits-at, split
 use Rattle.reliability.proofs.TerminalSums.{lawful as lawfulChosen}
 use Rattle.reliability.proofs.Alike.{seen, trees-alike}
 
-lowest-same : (r r′ : ℕ → List ℕ → Option Step) (es : List Link) (vs : List ℕ)
+pub lowest-same : (r r′ : ℕ → List ℕ → Option Step) (es : List Link) (vs : List ℕ)
     → ((v : ℕ) → List·Memᴰ v vs → r v (places (touches v) es) ≡ r′ v (places (touches v) es)) → lowest r es vs ≡ lowest r′ es vs
 unfolding lowest
 lowest-same r r′ es [] h = refl

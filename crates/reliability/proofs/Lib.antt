@@ -20,6 +20,7 @@ pub mod Signed
 pub mod Promises
 pub mod Alike
 pub mod Everywhere
+pub mod Unlinked
 pub mod Unrolled
 pub mod Dropping
 pub mod Separate

@@ -1,12 +1,13 @@
 -- What is promised of a figure of chosen nodes, for every valid network, every choice and every limit.
 use Prim.Native.Nat.{ℕ, _+_, _*_, _≤_, min}
 use mathlib.Core.Path.{_≡_, ap, _∙_}
-use mathlib.Core.List.{List, []}
-use mathlib.Core.Bool.{true}
+use mathlib.Core.List.{List, [], map}
+use mathlib.Core.Bool.{true, false}
 use lib.Dec.{leb}
 use lib.ListN.{length}
 use Rattle.rounding.specs.Rounding.{S}
 use Rattle.rounding.specs.declared.Direction.the-variants.{Up}
+use Rattle.reliability.specs.Networks.{ends, connected}
 use Rattle.reliability.specs.Exact.{Weighted, sum, total, AllEnclosed, altogether}
 use Rattle.reliability.specs.Rule.{ready, bounded, run}
 use Rattle.reliability.specs.Terminals.{Terminals, Chosen, stepAt, splitAt, tree, figure, needed}
@@ -15,6 +16,7 @@ use Rattle.reliability.proofs.Promises as rule
 use Rattle.reliability.proofs.TerminalSteps.{view, split-choice}
 use Rattle.reliability.proofs.TerminalSums.{lawful}
 use Rattle.reliability.proofs.Simple.{unlooped-tree, unlooped-loopless, unlooped-chosen, one-tree}
+use Rattle.reliability.proofs.Separate.{apart-tree}
 
 module _ (g : Terminals) (limit : ℕ) where
   -- the splits taken are those needed, as far as the limit goes
@@ -50,3 +52,8 @@ module _ (g : Terminals) (valid : Chosen g) (limit : ℕ) where
   pub one-chosen : length (g .chosen) ≤ 1 → figure g limit ≡ bounded (λ d. S) 0 true
   unfolding run
   one-chosen one = ap (λ t. run t limit) (unlooped-tree g valid ∙ one-tree _ (unlooped-chosen g valid) (unlooped-loopless (g .network)) one)
+
+  -- chosen nodes in different pieces: 0, without a step
+  pub apart : connected (g .chosen) (map ends (g .network .links)) ≡ false → figure g limit ≡ bounded (λ d. 0) 0 true
+  unfolding run
+  apart pieces = ap (λ t. run t limit) (apart-tree g valid pieces)

@@ -1,4 +1,4 @@
--- Exact reliability, N over a total: the sum over the sets of links that connect all nodes, over the sum over all sets.
+-- Exact reliability, N over a total: the sum over the sets of links that connect all nodes, or the chosen ones, over the sum over all sets.
 use Prim.Native.Nat.{ℕ, _+_, _-_, _*_, _≤_, _<_}
 use mathlib.Core.Path.{_≡_}
 use mathlib.Core.List.{List, [], _∷_}

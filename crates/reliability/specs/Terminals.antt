@@ -68,7 +68,7 @@ seriesIn g v (i ∷ (j ∷ (k ∷ r))) = none
 
 -- the first of steps 1 to 7 that fits, where step 7 splits on the link at place i. The links of pieces without any chosen node go as
 -- loops do, one at a time: that takes no split, and it is the same as dropping them all at once (pieces-at-once in proofs/Trimmed.antt).
--- An unchosen node without a link fits no step and is left alone: it bears on nothing.
+-- An unchosen node without a link fits no step and is left alone: without it the work is the same (unlinked-tree in proofs/Unlinked.antt).
 unfoldable pub nextAt : ℕ → Terminals → Step
 nextAt i g =
     let es = g .network .links in

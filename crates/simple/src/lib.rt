@@ -78,9 +78,10 @@ pub fn start(net: Network) -> Begun
             rest: n,
         };
     }
+    let r = kept(n, piece).parallel();
     Begun {
         settled: false,
         value: 0,
-        rest: kept(n, piece).parallel(),
+        rest: r,
     }
 }

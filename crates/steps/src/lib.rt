@@ -7,7 +7,7 @@ ghost use Rattle.network.specs.Places.{rank, Fitting, assembled};
 ghost use Rattle.network.specs.Workable.{Workable};
 ghost use Rattle.steps.specs.Simple.{stepOf, splitOn};
 
-// The step that fits a simple network: one node is left, an end, two links in series, or a split.
+// The step that fits a simple network: one chosen node is left, an end, two links in series, or a split.
 pub enum Next {
     OneNode,
     End(usize, usize),
