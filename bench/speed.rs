@@ -2,12 +2,15 @@
 //! `outside/c/rule.c`, and the straightforward version, `outside/src/rule.rs`, taking turns in one run; and the same with two nodes
 //! chosen, where those are `outside/c/chosen.c` and `outside/src/chosen.rs`. Of these plans and the sample
 //! plans the splits and the time of a whole figure by either choice of the link that is split on, and where it takes too many splits
-//! the figures under some limits; the same of random plans, in the mean. Then the time of a whole listing by the program.
+//! the figures under some limits; the same of random plans, in the mean. The time that the counts of plans take the library, beside
+//! going through all their sets of links, in turns. Then the time of a whole listing by the program.
 //! As a test, without `--bench` among its words, it does everything once on a small scale and judges no time.
 
 use outside::arithmetic::S;
 use outside::bitsets::figure_by;
 use outside::calls::{answer_of, read, ANSWER, MOST_STEPS};
+use outside::counting::{by_sets, MOST_COUNTED};
+use outside::desk::counted;
 use outside::listing::{by_the_calls, written};
 use outside::plans::{Link, Plan};
 use outside::random::Random;
@@ -28,6 +31,8 @@ struct Scale {
     most: u64,
     listings: usize,
     listed: &'static str,
+    /// The most links of a plan whose sets are gone through.
+    sets_of: usize,
 }
 
 const WHOLE: Scale = Scale {
@@ -36,6 +41,7 @@ const WHOLE: Scale = Scale {
     most: 40_000_000,
     listings: 5,
     listed: "mesh",
+    sets_of: MOST_COUNTED,
 };
 
 const SMALL: Scale = Scale {
@@ -44,6 +50,7 @@ const SMALL: Scale = Scale {
     most: 1_000,
     listings: 1,
     listed: "example",
+    sets_of: 12,
 };
 
 /// Four rows and six columns, each closed to a ring.
@@ -363,6 +370,89 @@ fn random_figures(scale: &Scale) {
     }
 }
 
+/// Plans of at most 24 links: the slowest that a search has found, and others.
+fn counted_plans() -> [(&'static str, Plan); 5] {
+    let ring: Vec<[u8; 2]> = (0..24).map(|v| [v, (v + 1) % 24]).collect();
+    let mut seven = Plan::complete(7, S / 2);
+    let again: Vec<Link> = seven.links[..3].to_vec();
+    seven.links.extend(again);
+    [
+        ("slowest found", Plan::slowest_counted()),
+        ("complete, three twice", seven),
+        ("ring", Plan::alike(24, S / 2, &ring)),
+        ("two-crossings", sample("two-crossings")),
+        ("four-cabinets", sample("four-cabinets")),
+    ]
+}
+
+fn counts_by_the_library(file: &[u8], count: usize) -> Vec<u64> {
+    let mut row = vec![0; count + 1];
+    assert_eq!(counted(file, &mut row), 0);
+    row
+}
+
+/// The time of a piece of work in nanoseconds, of rounds that take a millisecond together.
+fn time_of(work: impl Fn()) -> f64 {
+    let mut rounds = 0;
+    let started = Instant::now();
+    while rounds == 0 || started.elapsed().as_micros() < 1_000 {
+        work();
+        rounds += 1;
+    }
+    started.elapsed().as_nanos() as f64 / f64::from(rounds)
+}
+
+/// The times of the counts by the library and by all sets, in turns. Both have to agree.
+fn counts_times(plan: &Plan, scale: &Scale) -> [Times; 2] {
+    let (file, count) = (&plan.bytes(), plan.links.len());
+    assert_eq!(by_sets(plan), counts_by_the_library(file, count));
+    let mut taken = [const { Vec::new() }; 2];
+    for _ in 0..scale.runs {
+        taken[0].push(time_of(|| {
+            black_box(counts_by_the_library(black_box(file), count));
+        }));
+        taken[1].push(time_of(|| {
+            black_box(by_sets(black_box(plan)));
+        }));
+    }
+    taken.map(Times::new)
+}
+
+fn counts_row(cells: [&str; 5]) {
+    let [plan, library, range, sets, faster] = cells;
+    println!("| {plan:42} | {library:>8} | {range:>20} | {sets:>8} | {faster:>13} |");
+}
+
+/// Prints the table of the counts, and returns the largest noise.
+fn counts(scale: &Scale) -> f64 {
+    println!(
+        "\nThe counts of connecting sets, the median of {} runs:\n",
+        scale.runs
+    );
+    counts_row([
+        "plan",
+        "library",
+        "least to most",
+        "all sets",
+        "times as fast",
+    ]);
+    counts_row(["---", "--:", "--:", "--:", "--:"]);
+    let mut noise: f64 = 0.0;
+    for (name, mut plan) in counted_plans() {
+        plan.links.truncate(scale.sets_of);
+        let [library, sets] = counts_times(&plan, scale);
+        let (nodes, links) = (plan.nodes, plan.links.len());
+        let name = format!("{name}: {nodes} nodes, {links} links");
+        let [median, least, most] = [library.median(), library.least(), library.most()];
+        let [median, least, most, all] = [median, least, most, sets.median()].map(shown_time);
+        let faster = format!("{:.1}", sets.median() / library.median());
+        let range = format!("{least} to {most}");
+        counts_row([&name, &median, &range, &all, &faster]);
+        noise = noise.max(library.noise()).max(sets.noise());
+    }
+    noise
+}
+
 /// Prints the time of a whole listing, and returns the noise.
 fn listings(scale: &Scale) -> f64 {
     let name = scale.listed;
@@ -388,6 +478,7 @@ fn main() {
     whole_figures(&scale);
     unfinished_figures(&scale);
     random_figures(&scale);
+    let noise = noise.max(counts(&scale));
     let noise = noise.max(listings(&scale));
     println!("\nNoise: of the same work, the slowest run took up to {noise:.0} % longer than the fastest.");
 }

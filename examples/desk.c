@@ -1,4 +1,4 @@
-/* Asks a question of each of the planning desk's calls but sitting, and prints the answers. */
+/* Asks a question of each of the planning desk's calls but sitting and counts, and prints the answers. */
 
 #include "print.h"
 

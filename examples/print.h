@@ -4,23 +4,11 @@
 #define PRINT_H
 
 #include "plandesk.h"
-
-#include <inttypes.h>
-#include <stdio.h>
+#include "refusal.h"
 
 static uint32_t number(const uint8_t *from)
 {
     return from[0] | (uint32_t)from[1] << 8 | (uint32_t)from[2] << 16 | (uint32_t)from[3] << 24;
-}
-
-/* A refusal names a link if its number is 5 or 6, of plan B's 25 or 26. */
-static void print_refusal(const char *question, uint64_t refusal)
-{
-    uint64_t cause = refusal % 256;
-    if (cause % 20 == 5 || cause % 20 == 6)
-        printf("%s: refused %" PRIu64 " at link %" PRIu64 "\n", question, cause, refusal / 256);
-    else
-        printf("%s: refused %" PRIu64 "\n", question, cause);
 }
 
 static void print(const char *question, uint64_t refusal, const uint8_t *answer)

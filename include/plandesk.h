@@ -1,4 +1,4 @@
-/* The plan calculator's five calls.
+/* The plan calculator's six calls.
 
    A plan file, all numbers little-endian: n (16 bits), m (16 bits); m pairs of one-byte ends, numbered from 0; m values
    of 32 bits. Its length is 4 + 6 * m; n is 1 to 32, m is 0 to 64. A value of 0 to S = 1,000,000,000 is a link's chance
@@ -8,15 +8,16 @@
    value of it, rounded down and up after each joint: 999,900,002 and 999,900,003 for k = 0, 999,600,032 and 999,600,033
    for k = 1. A chance in units is taken as it is, with its joints in it.
 
-   A table, which every call but check is handed, is a buyer's own rating by length: 512 values of 32 bits, little-endian,
-   so 2,048 bytes, the value at place k for a length of k hundred metres. The first is S, and none is above the one before;
-   equal ones will do, and so will 0. Within that call T[k] is the table's value at k, with the joints as above, for every
-   length, in a difference for those of both plans. With a table of no bytes the T above serves, which is built in.
+   A table, which every call but check and counts is handed, is a buyer's own rating by length: 512 values of 32 bits,
+   little-endian, so 2,048 bytes, the value at place k for a length of k hundred metres. The first is S, and none is above
+   the one before; equal ones will do, and so will 0. Within that call T[k] is the table's value at k, with the joints as
+   above, for every length, in a difference for those of both plans. With a table of no bytes the T above serves, which is
+   built in.
 
    A choice, which figure is handed, says which nodes count: bit i, of value 2 to the power i, names node i. The chosen
    nodes hang together if the sound links lead from each of them to every other, over any nodes, chosen or not; one node
    alone always does. With all nodes chosen, by 2 to the power n less 1, every node has to reach every other. Importance,
-   difference and sitting take no choice and mean all nodes.
+   difference, sitting and counts take no choice and mean all nodes.
 
    An answer is four 32-bit little-endian numbers, 16 bytes: low, high, steps, finished (1 or 0). They fill the first 16
    bytes of the answer buffer; later bytes keep their contents. The exact figure, in units, is no less than low and no
@@ -25,8 +26,11 @@
    finished importance or difference is at most as wide as its two evaluations together may be. All this holds under every
    table and every choice that is accepted.
 
+   A row, which counts is handed, is a buffer of 64-bit numbers, as the machine has them; its length counts numbers, not
+   bytes.
+
    Each call returns 0 if it is accepted, and otherwise the number of the first cause of refusal that it meets, in the order
-   of this list. A refused call leaves the whole answer buffer as it was, and the whole work buffer.
+   of this list. A refused call leaves the whole answer buffer as it was, the whole work buffer and the whole row.
 
      7             the limit is above 1,000,000
      9             the answer buffer is under 16 bytes, or the work buffer under 776
@@ -42,21 +46,25 @@
      8             the link place is m or above
      10            the saved work has a wrong form
      11            an open split of the saved work is not one that the rule comes to on this plan, now or before
+     15            the plan has more than 24 links
+     16            the row has fewer than m + 1 numbers
 
    Links are tested in order, 5 before 6 at each. 12 and 13 are tested also where the plan has no length. 14 is of figure
-   alone, and of all 64 bits of the choice; 8 is of importance alone; the work buffer, 10 and 11 are of sitting alone;
-   check has 1 to 6 alone.
+   alone, and of all 64 bits of the choice; 8 is of importance alone; the work buffer, 10 and 11 are of sitting alone; 15
+   and 16 are of counts alone, which has 1 to 6 beside them and no other; check has 1 to 6 alone.
 
-   A call asks that each pointer stands for as many bytes as the length behind it says (any pointer will do where that is
-   0), and that a buffer that is written to shares no byte with another buffer, a plan, a table or saved work. It allocates
-   nothing and keeps nothing, so it is safe from several threads at once; each needs a stack of 512 KiB for it.
+   A call asks that each pointer stands for as many bytes, that of a row for as many numbers, as the length behind it says
+   (any pointer will do where that is 0), and that a buffer that is written to shares no byte with another buffer, a plan,
+   a table or saved work. It allocates nothing and keeps nothing, so it is safe from several threads at once; each needs a
+   stack of 512 KiB for it.
 
    How long a call takes goes by its steps. At the limit of 1,000,000 the mesh of 32 nodes and 64 links (plans/mesh.plan)
    took figure about 0.4 seconds on one core of x86-64, and importance and difference, which work two networks, up to 0.8.
    The slowest of 400 random plans took about as long a step. A sitting takes about as long as a figure under its limit:
    about 0.4 seconds for a first sitting of the mesh at 1,000,000. A later one walks down the open splits first, which
    with 55 of them took less than a ten-thousandth of a second. A table took figure less than a millionth of a second
-   more. A call cannot be stopped; a smaller limit ends it sooner. */
+   more. A call cannot be stopped; a smaller limit ends it sooner. Counts has no steps and no limit: how long it takes goes
+   by the plan, and bench/run prints what the slowest plan that was found takes. */
 
 #ifndef PLANDESK_H
 #define PLANDESK_H
@@ -68,11 +76,12 @@
 extern "C" {
 #endif
 
-/* The bytes of an answer, the bytes of a work buffer, the bytes of a table, the largest limit, one in units, the value of a
-   length of 0, and the choice of all of n nodes. */
+/* The bytes of an answer, the bytes of a work buffer, the bytes of a table, the numbers of a row that is always enough, the
+   largest limit, one in units, the value of a length of 0, and the choice of all of n nodes. */
 #define PLANDESK_ANSWER 16
 #define PLANDESK_WORK 776
 #define PLANDESK_TABLE 2048
+#define PLANDESK_ROW 25
 #define PLANDESK_MOST_STEPS 1000000
 #define PLANDESK_ONE 1000000000
 #define PLANDESK_LENGTH 2147483648u
@@ -157,6 +166,22 @@ uint64_t difference(const uint8_t *plan_a, size_t plan_a_len, const uint8_t *pla
 uint64_t sitting(const uint8_t *plan, size_t plan_len, const uint8_t *table, size_t table_len, uint64_t limit,
                  const uint8_t *saved, size_t saved_len, uint8_t *answer, size_t answer_len, uint8_t *work,
                  size_t work_len);
+
+/* How many sets of links connect all nodes, by the number of their links: entry i, at place i of the row, is the number of
+   sets of just i links with which every node can reach every other, for i from 0 to m. These are the exact numbers behind
+   the plan's reliability polynomial: where all links have one chance p, the chance that every node can reach every other
+   is the sum of entry i * p^i * (1 - p)^(m - i).
+
+   Two sets differ if a link is in one of them alone. Each link counts for itself, also one of several between the same
+   two nodes, and also a loop, which connects nothing: with one node and m loops entry i is the number of all sets of i out
+   of m. The values of the links play no part, a chance of 0 as little as a length, but they are tested as in every plan.
+   The empty set connects a plan of one node, so entry 0 is 1 there and otherwise 0; where all links together do not
+   connect the nodes, all entries are 0. No entry is above 2,704,156, the number of all sets of 12 out of 24. Four nodes,
+   each two joined by a link, give 0, 0, 0, 16, 15, 6, 1.
+
+   The row may be longer than m + 1 numbers; those behind place m keep their contents. 25 numbers are always enough.
+   Returns 0, or 1 to 4, 5 + 256 * i, 6 + 256 * i, 15 or 16. A refused call leaves the row as it was. */
+uint64_t counts(const uint8_t *plan, size_t plan_len, uint64_t *row, size_t row_len);
 
 #ifdef __cplusplus
 }

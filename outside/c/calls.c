@@ -2,7 +2,8 @@
    lengths of the answer buffer, of plan A, of plan B or the saved work, of the work buffer, and of the table), and then the
    contents of these five. The number returned and the contents of both buffers are written to standard output. Every plan,
    table and buffer has a block of memory of its own, of just its size, so that a memory checker sees a byte read or written
-   outside; a table of no bytes stands at no address. */
+   outside; a table of no bytes stands at no address. The row of the counts takes the answer buffer's place, eight bytes to a
+   number. */
 
 #include "plandesk.h"
 
@@ -31,8 +32,10 @@ static uint64_t made(const uint64_t *asked, const uint8_t *a, const uint8_t *b, 
         return importance(a, a_len, table, table_len, place, limit, answer, room);
     case 3:
         return difference(a, a_len, b, b_len, table, table_len, limit, answer, room);
-    default:
+    case 4:
         return sitting(a, a_len, table, table_len, limit, b, b_len, answer, room, work, work_len);
+    default:
+        return counts(a, a_len, (uint64_t *)answer, room / sizeof(uint64_t));
     }
 }
 

@@ -136,9 +136,9 @@ enum {
 /* A slip of the joints or of the table may be made in one place alone, whose number stands before the slip's last two digits. */
 enum { EVERYWHERE, IN_FIGURE, IN_IMPORTANCE, IN_PLAN_A, IN_PLAN_B, IN_SITTING, IN_CARRIED };
 
-enum { CHECK, FIGURE, IMPORTANCE, DIFFERENCE, SITTING };
+enum { CHECK, FIGURE, IMPORTANCE, DIFFERENCE, SITTING, COUNTS };
 
-/* Of a sitting b is the saved work. */
+/* Of a sitting b is the saved work. Of the counts the answer is the row's bytes. */
 struct call {
     long which;
     const uint8_t *a, *b, *table;
@@ -148,9 +148,14 @@ struct call {
     size_t room;
     uint8_t *work;
     size_t work_room;
+    uint64_t *row;
+    size_t row_len;
 };
 
 /* Makes the call by the rule in C, with a slip of the first kinds and one of chosen nodes. */
 uint64_t in_c(long slip, long chosen_slip, const struct call *c);
+
+/* Makes the call counts with this slip (slips_of_counts.c). */
+uint64_t slipped_counts(long slip, struct call *c);
 
 #endif

@@ -1,12 +1,12 @@
-/* The five calls with one slip, which the variable SLIP chooses; the calls without it stand under other names. Linked in the
+/* The six calls with one slip, which the variable SLIP chooses; the calls without it stand under other names. Linked in the
    place of the library by examples/slips.rs, which names the slips.
 
    SLIP is the number of a kind and eight more numbers. Of kinds 0 and 1: the call (0 check, 1 figure, 2 importance,
-   3 difference, 4 sitting), what is wrong, by how much; and where: of an answer (kind 0) the least and the most links, whether
+   3 difference, 4 sitting, 5 counts, which have no answers of kind 0), what is wrong, by how much; and where: of an answer (kind 0) the least and the most links, whether
    it is finished, the least and the most steps; of a refusal (kind 1) its number without the link. Of kinds 70 to 84 the
    call, and of kind 76 a count. Of kind 90 a slip of the choice, of the joints or of the table, of kind 91 one of chosen nodes, both
    made in calls in C. Of kind 92 a slip of the choice of nodes, made around figure. Of kind 93 the same as of kind 0, where some
-   nodes are not chosen. Of other kinds: none. */
+   nodes are not chosen. Of kind 94 a slip of the counts, made in c/slips_of_counts.c. Of other kinds: none. */
 
 #include "in_c.h"
 #include "plandesk.h"
@@ -26,6 +26,7 @@ uint64_t proved_difference(const uint8_t *plan_a, size_t plan_a_len, const uint8
 uint64_t proved_sitting(const uint8_t *plan, size_t plan_len, const uint8_t *table, size_t table_len, uint64_t limit,
                         const uint8_t *saved, size_t saved_len, uint8_t *answer, size_t answer_len, uint8_t *work,
                         size_t work_len);
+uint64_t proved_counts(const uint8_t *plan, size_t plan_len, uint64_t *row, size_t row_len);
 
 enum { LOW, HIGH, STEPS, FINISHED, BEHIND, PAST, RETURNED, FIRST, LAST };
 enum { WORK_BEHIND = LAST + 1, WORK_PAST, WORK_FIRST, WORK_LAST, WORK_END };
@@ -41,6 +42,8 @@ static uint64_t proved(const struct call *c)
         return proved_importance(c->a, c->a_len, c->table, c->table_len, c->place, c->limit, c->answer, c->room);
     case DIFFERENCE:
         return proved_difference(c->a, c->a_len, c->b, c->b_len, c->table, c->table_len, c->limit, c->answer, c->room);
+    case COUNTS:
+        return proved_counts(c->a, c->a_len, c->row, c->row_len);
     default:
         return proved_sitting(c->a, c->a_len, c->table, c->table_len, c->limit, c->b, c->b_len, c->answer, c->room, c->work,
                               c->work_room);
@@ -738,6 +741,14 @@ static uint64_t wrong_of_chosen(const struct call *c, const long *s)
     return c->which == FIGURE && returned == 0 && c->choice != all_of(c->a[0]) ? wrong_answer(c, s, returned) : returned;
 }
 
+/* The counts, which have the slips of kinds 1 and 94 alone. */
+static uint64_t counted(struct call *c, const long *s)
+{
+    if (s[0] == 94)
+        return slipped_counts(s[1], c);
+    return s[0] == 1 ? wrong_refusal(c, s, proved(c)) : proved(c);
+}
+
 static uint64_t slipped(struct call c)
 {
     long s[9] = {-1, 0, 0, 0, 0, 0, 0, 0, 0};
@@ -747,6 +758,8 @@ static uint64_t slipped(struct call c)
         s[i] = strtol(text, &end, 10);
         text = end;
     }
+    if (c.which == COUNTS)
+        return counted(&c, s);
     if (s[0] == 90)
         return in_c(s[1], SOME_BY_CHOSEN, &c);
     if (s[0] == 91)
@@ -773,26 +786,32 @@ uint64_t figure(const uint8_t *plan, size_t plan_len, const uint8_t *table, size
                 uint8_t *answer, size_t answer_len)
 {
     return slipped((struct call){FIGURE, plan, plan, table, plan_len, plan_len, table_len, 0, choice, limit, answer, answer_len,
-                                 NULL, 0});
+                                 NULL, 0, NULL, 0});
 }
 
 uint64_t importance(const uint8_t *plan, size_t plan_len, const uint8_t *table, size_t table_len, uint64_t place,
                     uint64_t limit, uint8_t *answer, size_t answer_len)
 {
     return slipped((struct call){IMPORTANCE, plan, plan, table, plan_len, plan_len, table_len, place, 0, limit, answer,
-                                 answer_len, NULL, 0});
+                                 answer_len, NULL, 0, NULL, 0});
 }
 
 uint64_t difference(const uint8_t *plan_a, size_t plan_a_len, const uint8_t *plan_b, size_t plan_b_len, const uint8_t *table,
                     size_t table_len, uint64_t limit, uint8_t *answer, size_t answer_len)
 {
     return slipped((struct call){DIFFERENCE, plan_a, plan_b, table, plan_a_len, plan_b_len, table_len, 0, 0, limit, answer,
-                                 answer_len, NULL, 0});
+                                 answer_len, NULL, 0, NULL, 0});
 }
 
 uint64_t sitting(const uint8_t *plan, size_t plan_len, const uint8_t *table, size_t table_len, uint64_t limit,
                  const uint8_t *saved, size_t saved_len, uint8_t *answer, size_t answer_len, uint8_t *work, size_t work_len)
 {
     return slipped((struct call){SITTING, plan, saved, table, plan_len, saved_len, table_len, 0, 0, limit, answer, answer_len,
-                                 work, work_len});
+                                 work, work_len, NULL, 0});
+}
+
+uint64_t counts(const uint8_t *plan, size_t plan_len, uint64_t *row, size_t row_len)
+{
+    return slipped((struct call){.which = COUNTS, .a = plan, .a_len = plan_len, .answer = (uint8_t *)row,
+                                 .room = row_len * sizeof *row, .row = row, .row_len = row_len});
 }

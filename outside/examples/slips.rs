@@ -4,7 +4,8 @@
 //!     cargo run --release --offline --locked --manifest-path outside/Cargo.toml --example slips [WORD ..]
 //!
 //! tries the slips whose names have all the words, or all slips. It fails if a slip is not caught, or if a test fails without one:
-//! the library is tried so where no words are given, the calls in C where slips of theirs are to be tried.
+//! the library is tried so where no words are given, the calls in C and those around the counts where slips of theirs are to be
+//! tried.
 
 use outside::programs::ran;
 use outside::repository::{library, path};
@@ -24,12 +25,20 @@ fn slip(name: String, numbers: &[i64]) -> Slip {
     Slip { name, numbers }
 }
 
-const CALLS: [&str; 5] = ["check", "figure", "importance", "difference", "sitting"];
+const CALLS: [&str; 6] = [
+    "check",
+    "figure",
+    "importance",
+    "difference",
+    "sitting",
+    "counts",
+];
 const CHECK: usize = 0;
 const FIGURE: i64 = 1;
 const IMPORTANCE: usize = 2;
 const DIFFERENCE: usize = 3;
 const SITTING: usize = 4;
+const COUNTS: usize = 5;
 
 /// More steps than most tests take.
 const MANY: i64 = 50_000;
@@ -81,7 +90,7 @@ const WHERE: [(&str, [i64; 5]); 14] = [
 fn of_answers() -> Vec<Slip> {
     let mut slips = Vec::new();
     for (place, [least, most, finished, from, to]) in WHERE {
-        for (call, of) in CALLS.iter().enumerate() {
+        for (call, of) in CALLS[..COUNTS].iter().enumerate() {
             let count = if from > MANY { 6 } else { WRONG.len() };
             for &(wrong, what, by) in &WRONG[..count] {
                 if call != CHECK || what == 6 && finished == 1 {
@@ -105,6 +114,7 @@ fn causes(call: usize) -> Vec<i64> {
         IMPORTANCE => (1..=9).chain([12, 13]).collect(),
         DIFFERENCE => (1..=7).chain([9, 12, 13]).chain(21..=26).collect(),
         SITTING => (1..=7).chain(9..=13).collect(),
+        COUNTS => (1..=6).chain([15, 16]).collect(),
         _ => (1..=7).chain([9, 12, 13, 14]).collect(),
     }
 }
@@ -474,6 +484,87 @@ fn of_chosen() -> Vec<Slip> {
     slips
 }
 
+/// The kind of slips of the counts.
+const OF_THE_COUNTS: i64 = 94;
+
+/// Slips of the counts, by their numbers in `c/slips_of_counts.c`.
+const OF_COUNTS: [(i64, &str); 69] = [
+    (1, "loops are dropped"),
+    (2, "of links side by side the first counts alone"),
+    (3, "links of 0 are dropped"),
+    (4, "links of S are dropped"),
+    (5, "lengths are dropped"),
+    (6, "the last link is dropped"),
+    (7, "the first link is dropped"),
+    (8, "the last of 24 links is dropped"),
+    (9, "nodes without a link are left out"),
+    (10, "the last node is left out where it has no link"),
+    (11, "nodes are four bits"),
+    (12, "of 25 nodes the last is the one before"),
+    (13, "a loop joins its node and the next"),
+    (14, "the last of 24 links is a loop"),
+    (20, "entries stand one place too low"),
+    (21, "entries stand one place too high"),
+    (22, "entries go by the broken links"),
+    (23, "entries are those of at most i links"),
+    (24, "the sets that do not connect are counted"),
+    (25, "entries are 8 bits"),
+    (26, "entries are 16 bits"),
+    (27, "entries are 21 bits"),
+    (28, "the highest byte comes first"),
+    (29, "the empty set connects nothing"),
+    (30, "all links together always connect"),
+    (31, "a middle entry is one more, up to 14 links"),
+    (32, "a middle entry is one more, from 15 to 23 links"),
+    (33, "a middle entry is one more, 24 links"),
+    (34, "the first entry that is not 0 is one less"),
+    (35, "the last entry is one more"),
+    (36, "entry 0 is one more where there are 32 nodes"),
+    (37, "a first length adds a set"),
+    (38, "all entries are 0 where a link is 0"),
+    (39, "an entry above 2000000 is one less"),
+    (40, "the last entry is not written"),
+    (41, "the first entry is not written"),
+    (42, "zeros are not written"),
+    (43, "entries are added to the row"),
+    (44, "the row is cleared behind place m"),
+    (45, "a 0 is written behind place m"),
+    (46, "the number behind the row is changed"),
+    (47, "the number before the row is changed"),
+    (48, "the last number of a longer row is changed"),
+    (49, "25 numbers are written where there is room"),
+    (60, "24 links are refused"),
+    (61, "25 links are accepted"),
+    (62, "a row of m + 1 numbers is refused"),
+    (63, "a longer row is refused"),
+    (64, "16 is tested before 15"),
+    (65, "15 is tested before 1 to 6"),
+    (66, "15 is tested before 5 and 6"),
+    (67, "16 is tested before 1 to 6"),
+    (68, "16 is tested before 5 and 6"),
+    (69, "an empty row is refused before all else"),
+    (70, "15 names the links"),
+    (71, "the row's length counts bytes"),
+    (72, "an empty row is refused by 9"),
+    (73, "a row of m numbers is accepted"),
+    (74, "the entries that fit are written on 16"),
+    (75, "the row is cleared on 15"),
+    (76, "the row is cleared on 16"),
+    (77, "the row is cleared on 1 to 6"),
+    (78, "the refusal is written to the row"),
+    (80, "the plan is kept where other threads keep theirs"),
+    (81, "the stack is overrun"),
+    (82, "the row's length is 16 bits"),
+    (83, "the row's length is 8 bits"),
+    (84, "the plan's length is 16 bits"),
+    (85, "a plan at an odd address is refused"),
+];
+
+fn of_counts() -> Vec<Slip> {
+    let slip = |(number, name)| slip(format!("counts: {name}"), &[OF_THE_COUNTS, number]);
+    OF_COUNTS.map(slip).into()
+}
+
 /// Where a slip of the joints or of a value may be made alone, in the order of these places' numbers in `c/in_c.h`.
 const PLACES: [&str; 6] = [
     "a figure",
@@ -525,6 +616,7 @@ fn slips() -> Vec<Slip> {
     slips.extend(in_each_place("table", FIRST_OF_VALUES, &OF_VALUES));
     slips.extend(of_checks());
     slips.extend(of_chosen());
+    slips.extend(of_counts());
     slips.extend(OTHERS.map(|(kind, name)| slip(name.into(), &[kind])));
     slips.extend(of_answers());
     slips
@@ -540,7 +632,7 @@ fn write_libraries(folder: &Path) {
         rename.arg(format!("--redefine-sym={call}=proved_{call}"));
     }
     ran(rename.arg(library("desk")).arg(&archive));
-    for name in ["slips", "in_c"] {
+    for name in ["slips", "in_c", "slips_of_counts"] {
         let object = folder.join(format!("{name}.o"));
         let flags = "-std=c11 -O2 -Wall -Wextra -Wpedantic -Werror -c -I";
         let mut gcc = Command::new("gcc");
@@ -665,7 +757,9 @@ fn main() -> ExitCode {
         let none = slip("none".into(), &[kind, 0]);
         slips.iter().any(|slip| slip.numbers[0] == kind) && !right(&programs, Some(&none))
     };
-    if words.is_empty() && !right(&programs, None) || fails(IN_C) || fails(CHOSEN_IN_C) {
+    if words.is_empty() && !right(&programs, None)
+        || [IN_C, CHOSEN_IN_C, OF_THE_COUNTS].into_iter().any(fails)
+    {
         return ExitCode::FAILURE;
     }
     let (mut before, mut missed) = (Vec::new(), Vec::new());

@@ -1,4 +1,4 @@
-//! The calculator's five calls, through their C interface.
+//! The calculator's six calls, through their C interface.
 
 use crate::calls::{answer_of, left, Call, Outcome, ANSWER};
 use crate::sittings::{self, Sat, Sitting};
@@ -51,6 +51,7 @@ mod c {
             work: *mut u8,
             work_len: usize,
         ) -> u64;
+        pub fn counts(plan: *const u8, plan_len: usize, row: *mut u64, row_len: usize) -> u64;
     }
 }
 
@@ -108,6 +109,12 @@ pub fn sat<'a>(
             work.len(),
         )
     }
+}
+
+/// Makes the call of the counts.
+pub fn counted(plan: &[u8], row: &mut [u64]) -> u64 {
+    // SAFETY: as above, and the row is lent to this call alone.
+    unsafe { c::counts(plan.as_ptr(), plan.len(), row.as_mut_ptr(), row.len()) }
 }
 
 /// What the call answers.
@@ -177,6 +184,36 @@ pub fn hold_sitting_at<'a>(
     );
 }
 
+/// What a row holds before a call: no two bytes near each other are alike.
+pub fn row_pattern(room: usize) -> Vec<u64> {
+    let bytes = pattern(8 * room);
+    let number = |bytes: &[u8]| u64::from_ne_bytes(bytes.try_into().unwrap());
+    bytes.chunks(8).map(number).collect()
+}
+
+/// The number that the call of the counts returns with that outcome, and what it leaves of the row.
+pub fn row_left(outcome: &Result<Vec<u64>, u64>, row: &[u64]) -> (u64, Vec<u64>) {
+    match outcome {
+        Err(refusal) => (*refusal, row.to_vec()),
+        Ok(counts) => (0, [counts, &row[counts.len()..]].concat()),
+    }
+}
+
+/// Makes the call of the counts into a row of `room` numbers with a guard on both sides, and asserts that the number returned and
+/// every number there are those of the outcome.
+pub fn hold_counts(plan: &[u8], room: usize, outcome: &Result<Vec<u64>, u64>) {
+    let before = row_pattern(room + 2 * GUARD);
+    let mut row = before.clone();
+    let returned = counted(plan, &mut row[GUARD..][..room]);
+    let (number, behind) = row_left(outcome, &before[GUARD..]);
+    let left = [&before[..GUARD], &behind].concat();
+    assert_eq!(
+        (returned, row),
+        (number, left),
+        "{plan:?}, room {room}, {outcome:?}"
+    );
+}
+
 /// `check` of no bytes at no address.
 pub fn check_nothing() -> u64 {
     // SAFETY: nothing is read of no bytes.
@@ -199,6 +236,18 @@ pub fn figure_into_nothing(plan: &[u8], choice: u64, limit: u64) -> u64 {
             0,
         )
     }
+}
+
+/// `counts` into a row of no numbers at no address.
+pub fn counts_into_nothing(plan: &[u8]) -> u64 {
+    // SAFETY: nothing is written to no numbers.
+    unsafe { c::counts(plan.as_ptr(), plan.len(), std::ptr::null_mut(), 0) }
+}
+
+/// `counts` of no bytes at no address.
+pub fn counts_of_nothing(row: &mut [u64]) -> u64 {
+    // SAFETY: nothing is read of no bytes.
+    unsafe { c::counts(std::ptr::null(), 0, row.as_mut_ptr(), row.len()) }
 }
 
 /// A sitting of which one lent part (the plan, the table, the saved work, the answer or the work buffer) is no bytes at no address.

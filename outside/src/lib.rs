@@ -7,6 +7,7 @@ pub mod calls;
 pub mod chosen;
 pub mod citations;
 pub mod claims;
+pub mod counting;
 pub mod desk;
 pub mod library;
 pub mod listing;

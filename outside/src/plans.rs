@@ -107,6 +107,27 @@ impl Plan {
         Plan::alike(32, S / 10 * 9, &ends)
     }
 
+    /// Of the plans of 24 links that a search has tried, the one whose counts take the most splits: each of its twelve nodes has four
+    /// links.
+    pub fn slowest_counted() -> Plan {
+        let others: [&[u8]; 11] = [
+            &[5, 6, 8, 11],
+            &[3, 4, 5, 6],
+            &[4, 6, 9, 10],
+            &[8, 9, 10],
+            &[7, 11],
+            &[7, 10],
+            &[8],
+            &[8, 9],
+            &[],
+            &[11],
+            &[11],
+        ];
+        let with = |(a, others): (usize, &&'static [u8])| others.iter().map(move |b| [a as u8, *b]);
+        let ends: Vec<[u8; 2]> = others.iter().enumerate().flat_map(with).collect();
+        Plan::alike(12, S / 2, &ends)
+    }
+
     /// A ring of all nodes, at least three, and other pairs of nodes, so many links in all if there are enough pairs, in any order
     /// and with any values.
     pub fn meshed(random: &mut Random, nodes: u8, count: usize) -> Plan {

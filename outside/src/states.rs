@@ -160,6 +160,23 @@ impl Exact {
         }
     }
 
+    /// Of a plan whose links all have this chance in units, of whose sets of i links so many connect it, for each i.
+    pub fn of_counts(counts: &[u64], chance: u32) -> Exact {
+        let links = counts.len() - 1;
+        let term = |(i, count): (usize, &u64)| {
+            let sets = Whole::one().times((*count).into());
+            let sound = (0..i).fold(sets, |x, _| x.times(chance.into()));
+            (i..links).fold(sound, |x, _| x.times((S - chance).into()))
+        };
+        let terms = counts.iter().enumerate().map(term);
+        let sum = terms.fold(Whole::zero(), |x, y| x.plus(&y));
+        Exact {
+            gain: sum.times(S.into()),
+            loss: Whole::zero(),
+            one: Whole::one().times_power_of_s(links),
+        }
+    }
+
     /// The states of the other links, with the one at `place` sound less those with it broken.
     pub fn importance(plan: &Plan, place: usize) -> Exact {
         let mut others = plan.clone();

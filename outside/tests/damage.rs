@@ -1,6 +1,7 @@
 //! Damaged plan files at each of the calls but the sitting: every outcome is the one that the rule gives.
 
 use outside::calls::{held, read, Call, MOST_STEPS};
+use outside::counting;
 use outside::plans::{damaged, Plan};
 use outside::random::Random;
 use outside::states::{Exact, MOST};
@@ -24,6 +25,7 @@ fn tried(file: &[u8], good: &[u8], place: u64, limit: u64) -> bool {
         limit,
     };
     let _ = held(&some, 24);
+    let _ = counting::held(file, 11);
     let answers = [
         Call::figure(plan, limit),
         Call::Importance { plan, place, limit },

@@ -2,7 +2,8 @@
 
 use outside::arithmetic::S;
 use outside::calls::{all_nodes_of, left, Call};
-use outside::desk::pattern;
+use outside::counting;
+use outside::desk::{pattern, row_left, row_pattern};
 use outside::plans::{damaged, Plan};
 use outside::programs::{compiled, ran};
 use outside::random::Random;
@@ -99,6 +100,22 @@ fn trial_of_sitting<'a>(sitting: impl Into<Under<'a, Sitting<'a>>>, rooms: [usiz
         input: record([4, limit, 0], [&answer, plan, saved, &work, table]),
         output: [&number.to_le_bytes(), &answer_left[..], &work_left].concat(),
         shown: format!("{asked:?}, a table of {count} bytes, rooms {rooms:?}"),
+    }
+}
+
+/// The bytes of a row, as the machine has its numbers.
+fn row_bytes(row: &[u64]) -> Vec<u8> {
+    row.iter().flat_map(|number| number.to_ne_bytes()).collect()
+}
+
+fn trial_of_counts(file: &[u8], room: usize) -> Trial {
+    let before = row_pattern(room);
+    let (number, row) = row_left(&counting::outcome(file, room), &before);
+    let none: &[u8] = &[];
+    Trial {
+        input: record([5, 0, 0], [&row_bytes(&before), file, none, none, none]),
+        output: [&number.to_le_bytes(), &row_bytes(&row)[..]].concat(),
+        shown: format!("counts of {file:?}, room {room}"),
     }
 }
 
@@ -219,6 +236,35 @@ fn tables_under_a_memory_checker() {
     }
     assert!(trials.len() > 3_000, "too few: {}", trials.len());
     checked(&trials, "tables");
+}
+
+/// Plans of up to 24 links and a few more, and the same damaged, with rows that are too short, just enough and longer.
+#[test]
+fn counts_under_a_memory_checker() {
+    let mut random = Random::new(45);
+    let mut files: Vec<Vec<u8>> = [1, 2, 9, 12, 25, 32]
+        .map(|nodes| Plan::random_of(&mut random, nodes, 24).bytes())
+        .into();
+    files.push(Plan::random_of(&mut random, 12, 25).bytes());
+    for most in [6, 10, 14, 27] {
+        for _ in 0..6 {
+            let file = Plan::random(&mut random, 16, most).bytes();
+            files.extend(damaged(&mut random, &file));
+            files.push(file);
+        }
+    }
+    let mut trials = Vec::new();
+    for file in &files {
+        let count = file.get(2).map_or(0, |count| usize::from(count % 64));
+        let room = match random.below(3) {
+            0 => random.below(count + 1),
+            1 => count + 1,
+            _ => count + 1 + random.below(20),
+        };
+        trials.push(trial_of_counts(file, room));
+    }
+    assert!(trials.len() > 3_000, "too few: {}", trials.len());
+    checked(&trials, "counts");
 }
 
 /// The work of a first sitting by either choice.

@@ -2,7 +2,10 @@
 
 use outside::arithmetic::S;
 use outside::calls::{left, Call, Outcome, MOST_STEPS};
-use outside::desk::{hold, hold_sitting, made, pattern, sat};
+use outside::counting::{self, MOST_COUNTED};
+use outside::desk::{
+    counted, hold, hold_counts, hold_sitting, made, pattern, row_left, row_pattern, sat,
+};
 use outside::plans::Plan;
 use outside::random::Random;
 use outside::repository::plan;
@@ -169,6 +172,48 @@ fn fifty_five_open_splits_carried_on() {
     }
 }
 
+/// The same of the counts.
+fn counts_on_a_small_stack(plan: &Plan) {
+    assert_eq!(plan.links.len(), MOST_COUNTED);
+    let file = &plan.bytes();
+    let mut row = row_pattern(30);
+    let before = row.clone();
+    let returned = thread::scope(|scope| {
+        let small = thread::Builder::new().stack_size(STACK);
+        let run = small.spawn_scoped(scope, || counted(file, &mut row));
+        run.unwrap().join().unwrap()
+    });
+    let expected = row_left(&counting::outcome(file, 30), &before);
+    assert_eq!((returned, row), expected, "{plan:?}");
+}
+
+/// Plans of 24 links: seven nodes each joined to each and a path of three links at one of them, the most links one behind the other,
+/// the most at one node, and those that take longest.
+#[test]
+fn the_counts_of_24_links() {
+    let mut complete = Plan::complete(7, S / 2);
+    let path = Plan::alike(10, S / 2, &[[6, 7], [7, 8], [8, 9]]);
+    complete.nodes = 10;
+    complete.links.extend(path.links);
+    let of = |nodes, ends: fn(u8) -> [u8; 2]| {
+        let ends: Vec<[u8; 2]> = (0..24).map(ends).collect();
+        Plan::alike(nodes, S / 2, &ends)
+    };
+    for plan in [
+        complete,
+        Plan::slowest_counted(),
+        of(25, |i| [i, i + 1]),
+        of(25, |i| [0, i + 1]),
+        of(24, |i| [i, (i + 1) % 24]),
+        of(13, |i| [i % 12, i % 12 + 1]),
+        of(13, |i| [i / 12 * 12, i % 12]),
+        of(2, |_| [0, 1]),
+        of(1, |_| [0, 0]),
+    ] {
+        counts_on_a_small_stack(&plan);
+    }
+}
+
 const THREADS: usize = 8;
 
 /// Plans, and a table for each: three have none.
@@ -221,10 +266,18 @@ fn eight_threads_at_once() {
         .map(|((plan, saved), table)| Sitting { plan, limit, saved }.under(table))
         .collect();
     let sats: Vec<Result<Sat, u64>> = sittings.iter().map(|s| s.outcome(24, WORK)).collect();
+    let mut random = Random::new(73);
+    let sparse = (0..9).map(|i| Plan::random_of(&mut random, 12, 16 + i).bytes());
+    let counted_files: Vec<Vec<u8>> = sparse.collect();
+    let rows: Vec<Result<Vec<u64>, u64>> = counted_files
+        .iter()
+        .map(|file| counting::outcome(file, 25))
+        .collect();
     thread::scope(|scope| {
         for first in 0..THREADS {
             let (calls, outcomes) = (&calls, &outcomes);
             let (sittings, sats) = (&sittings, &sats);
+            let (counted_files, rows) = (&counted_files, &rows);
             let small = thread::Builder::new().stack_size(STACK);
             let run = move || {
                 for i in 0..4 * calls.len() {
@@ -232,6 +285,7 @@ fn eight_threads_at_once() {
                     hold(calls[i], 24, &outcomes[i]);
                     let i = i % sittings.len();
                     hold_sitting(sittings[i], [24, WORK], &sats[i]);
+                    hold_counts(&counted_files[i], 25, &rows[i]);
                 }
             };
             small.spawn_scoped(scope, run).unwrap();

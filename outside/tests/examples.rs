@@ -1,11 +1,13 @@
 //! The header and the examples in C: they compile without a warning, the header as C++ too; the comparison of two plans, the chosen
-//! cabinets and the sittings print what the rule gives.
+//! cabinets and the sittings print what the rule gives, the counted sets what the independent count gives.
 
 use outside::arithmetic::S;
-use outside::calls::Call;
+use outside::calls::{read, Call};
+use outside::counting::{all_sets, outcome};
 use outside::plans::Plan;
 use outside::programs::{compiled, compiled_as_cpp, ran};
-use outside::repository::{bytes, path, plan};
+use outside::random::Random;
+use outside::repository::{bytes, path, plan, plans_with};
 use outside::sittings::{Begun, Sitting, NOTHING, WORK};
 use outside::tables::Under;
 use std::fs;
@@ -33,14 +35,16 @@ fn run(program: &Path, words: &[&Path]) -> (i32, String, String) {
 fn line<'a>(name: &str, call: impl Into<Under<'a, Call<'a>>>) -> String {
     match call.into().outcome(16) {
         Ok(answer) => format!("{name}: {}\n", answer.unwrap()),
-        Err(number) if [5, 6].contains(&(number % 256 % 20)) => {
-            format!(
-                "{name}: refused {} at link {}\n",
-                number % 256,
-                number / 256
-            )
-        }
-        Err(number) => format!("{name}: refused {number}\n"),
+        Err(number) => refusal(name, number),
+    }
+}
+
+/// The line that stands for a refusal.
+fn refusal(name: &str, number: u64) -> String {
+    let (cause, link) = (number % 256, number / 256);
+    match cause % 20 {
+        5 | 6 => format!("{name}: refused {cause} at link {link}\n"),
+        _ => format!("{name}: refused {number}\n"),
     }
 }
 
@@ -265,6 +269,113 @@ fn wrong_words_of_chosen() {
         &[&plan, word("001")],
         &[&plan, word("0"), word("1 ")],
     ];
+    for words in wrong {
+        let (status, text, said) = run(&program, words);
+        assert_eq!((status, &text[..]), (2, ""), "{words:?}");
+        assert_eq!(said.lines().count(), 1, "{words:?}");
+    }
+}
+
+fn counts(name: &str) -> PathBuf {
+    compiled("examples/counts.c", &written(name)).to_owned()
+}
+
+/// What two sentences say of a row.
+fn meaning(row: &[u64]) -> String {
+    let (links, all) = (row.len() - 1, all_sets(row.len() - 1));
+    let Some(least) = row.iter().position(|count| *count > 0) else {
+        return "The plan is not connected, whichever links are sound.\n".into();
+    };
+    let most = links - least;
+    let text = format!("At most {most} of {links} links can fail with the plan still connected.\n");
+    let fewest = (0..=links).find(|failed| row[links - failed] < all[*failed]);
+    let fewest = fewest.map_or("No failed links disconnect it.".to_owned(), |failed| {
+        let all = all[failed];
+        let cut = all - row[links - failed];
+        format!("The fewest failed links that can disconnect it: {failed}, by {cut} of {all} sets.")
+    });
+    text + &fewest + "\n"
+}
+
+/// The exit status and what the program prints of a plan.
+fn lines_of_counts(file: &[u8]) -> (i32, String) {
+    let row = match outcome(file, 25) {
+        Ok(row) => row,
+        Err(15) => {
+            let links = read(file).unwrap().links.len();
+            let why = format!("the plan has {links} links, and sets are counted of 24 at most");
+            return (1, format!("counts: refused 15\n{why}\n"));
+        }
+        Err(number) => return (1, refusal("counts", number)),
+    };
+    let broken = |i: usize| row.len() - 1 - i;
+    let all = all_sets(row.len() - 1);
+    let entry = |(i, count): (usize, &u64)| {
+        let broken = broken(i);
+        format!(
+            "sound {i} broken {broken}: {count} of {} sets connect\n",
+            all[i]
+        )
+    };
+    let entries: String = row.iter().enumerate().map(entry).collect();
+    (0, entries + &meaning(&row))
+}
+
+/// Runs the program on a file with these bytes.
+fn hold_counts(program: &Path, name: &str, file: &[u8]) -> String {
+    let named = written(name);
+    fs::write(&named, file).unwrap();
+    let (status, text) = lines_of_counts(file);
+    let expected = (status, text.clone(), String::new());
+    assert_eq!(run(program, &[&named]), expected, "{file:?}");
+    text
+}
+
+/// Each sample plan, which with more than 24 links says how many it has; one node, and nodes apart; any plans.
+#[test]
+fn counted_sets() {
+    let program = counts("counts");
+    let hold = |file: &[u8]| hold_counts(&program, "counted.plan", file);
+    for name in plans_with("plan") {
+        let refused = hold(&plan(&name)).contains("refused 15");
+        assert_eq!(refused, name == "mesh");
+    }
+    let loops = Plan::alike(1, S, &[[0, 0], [0, 0]]).bytes();
+    assert!(hold(&loops).ends_with("\nNo failed links disconnect it.\n"));
+    let apart = Plan::new(2, &[]).bytes();
+    assert!(hold(&apart).ends_with("\nThe plan is not connected, whichever links are sound.\n"));
+    let mut random = Random::new(151);
+    for count in 0..=26 {
+        for nodes in [1, 4, 9] {
+            hold(&Plan::random_of(&mut random, nodes, count).bytes());
+        }
+    }
+}
+
+#[test]
+fn refused_plans_of_counts() {
+    let program = counts("counts-refusals");
+    let good = Plan::alike(3, S, &[[0, 1], [1, 2], [0, 2]]);
+    let mut end = good.clone();
+    end.links[1].ends[0] = 3;
+    let mut value = good.clone();
+    value.links[2].value = S + 1;
+    let mut many = good.bytes();
+    many[1] = 1;
+    let long = [&good.bytes()[..], &[0; 400]].concat();
+    let cut = good.bytes()[..9].to_vec();
+    for file in [end.bytes(), value.bytes(), many, long, cut, vec![], vec![3]] {
+        let text = hold_counts(&program, "counts-refused.plan", &file);
+        assert!(text.starts_with("counts: refused "), "{text}");
+    }
+}
+
+#[test]
+fn wrong_words_of_counts() {
+    let program = counts("counts-words");
+    let plan = path("plans/example.plan");
+    let (missing, folder) = (written("no-such-plan"), path("plans"));
+    let wrong: [&[&Path]; 4] = [&[], &[&missing], &[&folder], &[&plan, &plan]];
     for words in wrong {
         let (status, text, said) = run(&program, words);
         assert_eq!((status, &text[..]), (2, ""), "{words:?}");

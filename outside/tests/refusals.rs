@@ -1,8 +1,9 @@
-//! Every row of the table of causes, alone and in pairs, at each of the five calls, with lengths in the plans and without, and under
+//! Every row of the table of causes, alone and in pairs, at each of the six calls, with lengths in the plans and without, and under
 //! a buyer's table and the built-in one: of the independent version, and of the library.
 
 use outside::arithmetic::S;
 use outside::calls::{held, Call};
+use outside::counting;
 use outside::plans::{Plan, LENGTH};
 use outside::sittings::{held_into, sizes, Begun, Sitting, RUNNING};
 use outside::tables;
@@ -91,6 +92,7 @@ struct Asked {
     work_room: usize,
     saved: Work,
     table: Ratings,
+    row: usize,
 }
 
 /// Calls of which nothing is wrong: with a length in the plan or none, under no table and under a buyer's.
@@ -135,6 +137,7 @@ fn accepted(value: u32) -> Asked {
             longer: 0,
             kept: usize::MAX,
         },
+        row: 4,
     }
 }
 
@@ -281,6 +284,22 @@ fn of_the_saved_work() -> Vec<Fault<Asked>> {
     faults
 }
 
+/// Row 15 and then 16, of a plan of three links.
+fn of_the_links_and_the_row() -> Vec<Fault<Asked>> {
+    let mut faults = Vec::new();
+    for count in [25, 26, 32, 64] {
+        faults.push(fault(15, move |q: &mut Asked| {
+            let links = &mut q.a.plan.links;
+            let link = links[0];
+            links.resize(count.max(links.len()), link);
+        }));
+    }
+    for room in 0..4 {
+        faults.push(fault(16, move |q: &mut Asked| q.row = room));
+    }
+    faults
+}
+
 /// Each fault alone, and each two with different numbers: the one that is tested first decides.
 fn alone_and_in_pairs(faults: &[Fault<Asked>], returned: impl Fn(&Asked) -> Result<(), u64>) {
     for accepted in all_accepted() {
@@ -378,6 +397,16 @@ fn of_sitting() {
         let limit = q.limit;
         let (sitting, table) = (Sitting { plan, limit, saved }, &q.table.bytes());
         held_into(sitting.under(table), q.room, q.work_room).map(|_| ())
+    });
+}
+
+#[test]
+fn of_counts() {
+    let mut faults = of_plan_a();
+    faults.extend(of_the_links_and_the_row());
+    alone_and_in_pairs(&faults, |q| {
+        let plan = &q.a.bytes();
+        counting::held(plan, q.row).map(|_| ())
     });
 }
 

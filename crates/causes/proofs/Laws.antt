@@ -5,7 +5,7 @@ use mathlib.Core.Bool.{Bool, true, false, cond}
 use native.Mathlib.Omega.{arith}
 use Rattle.plan.proofs.Verdicts.{number-range}
 use Rattle.causes.specs.declared.CallCause.{CallCause}
-use Rattle.causes.specs.declared.CallCause.the-variants.{Limit, Buffer, TableSize, TableValues, Place, Choice, SavedWork, OpenSplit, Plan, SecondPlan}
+use Rattle.causes.specs.declared.CallCause.the-variants.{Limit, Buffer, TableSize, TableValues, Place, Choice, SavedWork, OpenSplit, ManyLinks, RowSize, Plan, SecondPlan}
 use Rattle.causes.specs.declared.CallVerdict.{CallVerdict}
 use Rattle.causes.specs.declared.CallVerdict.the-variants.{Accepted, Refused}
 use Rattle.causes.specs.Causes.{callNumber, callReturned}
@@ -19,6 +19,8 @@ call-number-range Place = omega arith
 call-number-range Choice = omega arith
 call-number-range SavedWork = omega arith
 call-number-range OpenSplit = omega arith
+call-number-range ManyLinks = omega arith
+call-number-range RowSize = omega arith
 call-number-range (Plan c) = omega (arith, number-range c)
 call-number-range (SecondPlan c) = omega (arith, number-range c)
 

@@ -2,7 +2,7 @@
 use Prim.Native.Nat.{ℕ, _+_, _*_}
 use Rattle.plan.specs.Plans.{number, namedLink}
 use Rattle.causes.specs.declared.CallCause.{CallCause}
-use Rattle.causes.specs.declared.CallCause.the-variants.{Limit, Buffer, TableSize, TableValues, Place, Choice, SavedWork, OpenSplit, Plan, SecondPlan}
+use Rattle.causes.specs.declared.CallCause.the-variants.{Limit, Buffer, TableSize, TableValues, Place, Choice, SavedWork, OpenSplit, ManyLinks, RowSize, Plan, SecondPlan}
 use Rattle.causes.specs.declared.CallVerdict.{CallVerdict}
 use Rattle.causes.specs.declared.CallVerdict.the-variants.{Accepted, Refused}
 
@@ -16,6 +16,8 @@ callNumber Place = 8
 callNumber Choice = 14
 callNumber SavedWork = 10
 callNumber OpenSplit = 11
+callNumber ManyLinks = 15
+callNumber RowSize = 16
 callNumber (Plan c) = number c
 callNumber (SecondPlan c) = number c + 20
 
@@ -29,6 +31,8 @@ callLink Place = 0
 callLink Choice = 0
 callLink SavedWork = 0
 callLink OpenSplit = 0
+callLink ManyLinks = 0
+callLink RowSize = 0
 callLink (Plan c) = namedLink c
 callLink (SecondPlan c) = namedLink c
 

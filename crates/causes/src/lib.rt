@@ -13,6 +13,8 @@ pub enum CallCause {
     Choice,
     SavedWork,
     OpenSplit,
+    ManyLinks,
+    RowSize,
     Plan(Cause),
     SecondPlan(Cause),
 }
@@ -35,6 +37,8 @@ fn call_number(c: CallCause) -> u8
         CallCause::Choice => 14,
         CallCause::SavedWork => 10,
         CallCause::OpenSplit => 11,
+        CallCause::ManyLinks => 15,
+        CallCause::RowSize => 16,
         CallCause::Plan(p) => plan::number_of(p),
         CallCause::SecondPlan(p) => plan::number_of(p) + 20,
     }
@@ -53,6 +57,8 @@ fn call_link(c: CallCause) -> u16
         CallCause::Choice => 0,
         CallCause::SavedWork => 0,
         CallCause::OpenSplit => 0,
+        CallCause::ManyLinks => 0,
+        CallCause::RowSize => 0,
         CallCause::Plan(p) => plan::named_link(p),
         CallCause::SecondPlan(p) => plan::named_link(p),
     }

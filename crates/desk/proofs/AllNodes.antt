@@ -15,10 +15,11 @@ use Rattle.tables.specs.Tables.{rating}
 use Rattle.plan.specs.Plans.{sizeN, WellFormed, planOf}
 use Rattle.causes.specs.declared.CallVerdict.{CallVerdict}
 use Rattle.causes.specs.declared.CallVerdict.the-variants.{Accepted, Refused}
+use Rattle.causes.specs.Outcomes.{Outcome, unless}
 use Rattle.refusals.specs.Refusals.{figureVerdict}
 use Rattle.refusals.proofs.Calls.{figure-means, chosen-all}
 use Rattle.answers.specs.Answers.{withFigure, stepsIn, finishedIn}
-use Rattle.desk.specs.Outcomes.{Outcome, unless, chosenBy, figureOutcome, allNodes, allFigureOutcome}
+use Rattle.desk.specs.Outcomes.{chosenBy, figureOutcome, allNodes, allFigureOutcome}
 use Rattle.desk.specs.Answers.{EnclosesAmong, Encloses, Marked}
 use Rattle.desk.proofs.Answers.{valid-of}
 use Rattle.desk.proofs.Demands.{figure-accepted, figure-encloses, figure-steps, figure-marked}

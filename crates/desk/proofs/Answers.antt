@@ -2,7 +2,7 @@
 use Prim.Native.Nat.{ℕ, suc, _+_, _-_, _*_, _^_, _≤_, _<_, max}
 use mathlib.Core.Path.{_≡_, refl, sym, ap, _∙_, subst}
 use mathlib.Core.List.{List, []}
-use mathlib.Core.Logic.{_⊎_, inl, inr, _↔_}
+use mathlib.Core.Logic.{_⊎_, inl, inr}
 use mathlib.Core.Bool.{Bool, true, false, cond, _&&_}
 use native.Mathlib.Omega.{arith}
 use lib.Dec.{leb}
@@ -21,33 +21,16 @@ use Rattle.plan.proofs.Verdicts.{accepted-means}
 use Rattle.plan.specs.Weights.{weightsOf, exactAmong}
 use Rattle.plan.proofs.Accepted.{plan-valid, plan-links, plan-nodes}
 use Rattle.plan.proofs.Weights.{unitsIn, plan-units, plan-total}
-use Rattle.causes.specs.declared.CallCause.{CallCause}
 use Rattle.causes.specs.declared.CallVerdict.{CallVerdict}
 use Rattle.causes.specs.declared.CallVerdict.the-variants.{Accepted, Refused}
-use Rattle.causes.specs.Causes.{callReturned}
-use Rattle.causes.proofs.Laws.{call-number-range, zero-accepted}
+use Rattle.causes.specs.Outcomes.{Outcome, unless, Refusal}
+use Rattle.causes.proofs.Laws.{call-number-range}
 use Rattle.answers.specs.Answers.{withFigure, Holds}
 use Rattle.answers.proofs.Laws.{written}
-use Rattle.desk.specs.Outcomes.{twos, Outcome, unless}
-use Rattle.desk.specs.Answers.{signed, EnclosesAmong, Narrow, Marked, Full, Refusal}
+use Rattle.desk.specs.Outcomes.{twos}
+use Rattle.desk.specs.Answers.{signed, EnclosesAmong, Narrow, Marked, Full}
 
 -- ---- accepted or refused
-
-pub returned-of : (v : CallVerdict) (b answer : List ℕ) → unless v b answer .returned ≡ callReturned v
-returned-of Accepted b answer = refl
-returned-of (Refused c) b answer = refl
-
-module _ (v : CallVerdict) (b answer : List ℕ) where
-  -- a refused call returns the verdict's number and leaves the buffer
-  pub refused : (c : CallCause) → v ≡ Refused c → (callReturned v ≡ unless v b answer .returned) × (b ≡ unless v b answer .buffer)
-  refused c e = rw e (refl, refl)
-
-  pub answers : v ≡ Accepted → (0 ≡ unless v b answer .returned) × (answer ≡ unless v b answer .buffer)
-  answers e = rw e (refl, refl)
-
--- 0 is returned exactly where the verdict is accepted
-pub zero-of : {r : ℕ} (v : CallVerdict) → r ≡ callReturned v → r ≡ 0 ↔ v ≡ Accepted
-zero-of v e = (λ z. zero-accepted v (sym e ∙ z), λ h. e ∙ ap callReturned h)
 
 pub full-or-refused : (f : Figure) (b : List ℕ) (v : CallVerdict) → (v ≡ Accepted → 16 ≤ length b)
     → Full (unless v b (withFigure f b)) b (withFigure f b) ⊎ Refusal (unless v b (withFigure f b)) b

@@ -25,12 +25,14 @@ use Rattle.plan.proofs.Weights.{plan-enclosed, plan-lengths}
 use Rattle.causes.specs.declared.CallVerdict.{CallVerdict}
 use Rattle.causes.specs.declared.CallVerdict.the-variants.{Accepted}
 use Rattle.causes.specs.Causes.{callReturned}
+use Rattle.causes.specs.Outcomes.{Outcome, Refusal}
+use Rattle.causes.proofs.Outcomes.{returned-of, zero-of}
 use Rattle.refusals.specs.Refusals.{chosenVerdict}
 use Rattle.refusals.proofs.Calls.{chosen-accepts}
 use Rattle.answers.specs.Answers.{withFigure, lowIn, highIn, stepsIn, finishedIn, Holds}
-use Rattle.desk.specs.Outcomes.{Outcome, checkOutcome, chosenBy, figureOutcome}
-use Rattle.desk.specs.Answers.{EnclosesAmong, Narrow, LiesWithin, Marked, Full, Refusal}
-use Rattle.desk.proofs.Answers.{full-or-refused, returned-of, zero-of, valid-of, read-back, encloses-read, width-read, marked}
+use Rattle.desk.specs.Outcomes.{checkOutcome, chosenBy, figureOutcome}
+use Rattle.desk.specs.Answers.{EnclosesAmong, Narrow, LiesWithin, Marked, Full}
+use Rattle.desk.proofs.Answers.{full-or-refused, valid-of, read-back, encloses-read, width-read, marked}
 
 -- demand 1: check accepts a plan that meets none of the causes 1 to 6, and no other
 pub check-accepted : (plan : List ℕ) → checkOutcome plan ≡ 0 ↔ WellFormed plan

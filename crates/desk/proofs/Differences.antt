@@ -28,12 +28,14 @@ use Rattle.plan.proofs.Weights.{plan-enclosed, plan-units, plan-total}
 use Rattle.causes.specs.declared.CallVerdict.{CallVerdict}
 use Rattle.causes.specs.declared.CallVerdict.the-variants.{Accepted}
 use Rattle.causes.specs.Causes.{callReturned}
+use Rattle.causes.specs.Outcomes.{Outcome, Refusal}
+use Rattle.causes.proofs.Outcomes.{returned-of, zero-of}
 use Rattle.refusals.specs.Refusals.{plannedSecond, figureVerdict, differenceVerdict}
 use Rattle.refusals.proofs.Calls.{figure-means, also-means, second-means}
-use Rattle.desk.specs.Outcomes.{twos, withDifference, Outcome, differenceOutcome}
+use Rattle.desk.specs.Outcomes.{twos, withDifference, differenceOutcome}
 use Rattle.answers.specs.Answers.{lowIn, highIn, stepsIn, finishedIn}
-use Rattle.desk.specs.Answers.{signed, HoldsSigned, LiesWithinSigned, Marked, Full, Refusal}
-use Rattle.desk.proofs.Answers.{full-or-refused, returned-of, zero-of, valid-of, read-back, signed-back, twos-range, marked, both-finished, mark-true}
+use Rattle.desk.specs.Answers.{signed, HoldsSigned, LiesWithinSigned, Marked, Full}
+use Rattle.desk.proofs.Answers.{full-or-refused, valid-of, read-back, signed-back, twos-range, marked, both-finished, mark-true}
 
 module _ (first second table : List ℕ) (limit : ℕ) (b : List ℕ) where
   abbrev o : Outcome

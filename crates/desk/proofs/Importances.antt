@@ -24,12 +24,14 @@ use Rattle.plan.proofs.Weights.{plan-enclosed, others-units, others-total}
 use Rattle.causes.specs.declared.CallVerdict.{CallVerdict}
 use Rattle.causes.specs.declared.CallVerdict.the-variants.{Accepted}
 use Rattle.causes.specs.Causes.{callReturned}
+use Rattle.causes.specs.Outcomes.{Outcome, Refusal}
+use Rattle.causes.proofs.Outcomes.{returned-of, zero-of}
 use Rattle.refusals.specs.Refusals.{placed, figureVerdict, importanceVerdict}
 use Rattle.refusals.proofs.Calls.{figure-means, also-means, placed-means}
 use Rattle.answers.specs.Answers.{withFigure, lowIn, highIn, stepsIn, finishedIn, Holds}
-use Rattle.desk.specs.Outcomes.{Outcome, importanceOutcome}
-use Rattle.desk.specs.Answers.{LiesWithin, Marked, Full, Refusal}
-use Rattle.desk.proofs.Answers.{full-or-refused, returned-of, zero-of, valid-of, read-back, marked, both-finished, mark-true}
+use Rattle.desk.specs.Outcomes.{importanceOutcome}
+use Rattle.desk.specs.Answers.{LiesWithin, Marked, Full}
+use Rattle.desk.proofs.Answers.{full-or-refused, valid-of, read-back, marked, both-finished, mark-true}
 
 module _ (plan table : List ℕ) (place limit : ℕ) (b : List ℕ) where
   abbrev o : Outcome

@@ -9,6 +9,8 @@ use Rattle.reliability.specs.Exact.{altogether}
 use Rattle.reliability.specs.Rule.{figure, needed}
 use Rattle.tables.specs.Tables.{rating, AcceptedTable}
 use Rattle.plan.specs.Plans.{WellFormed, planOf}
+use Rattle.causes.specs.Outcomes.{Outcome}
+use Rattle.causes.proofs.Outcomes.{answers}
 use Rattle.refusals.specs.Refusals.{figureVerdict}
 use Rattle.answers.specs.Answers.{withFigure, lowIn, highIn, stepsIn, finishedIn}
 use Rattle.sittings.specs.Sittings.{nothing}
@@ -17,9 +19,8 @@ use Rattle.sitting_desk.specs.Outcome.{SittingOutcome}
 use Rattle.sitting_desk.specs.Chains.{Lent, Allowed, AllAllowed, sat, handedOn, limits}
 use Rattle.sitting_desk.proofs.Demands as sittings
 use Rattle.refusals.proofs.Calls.{figure-means}
-use Rattle.desk.specs.Outcomes.{Outcome, figureOutcome, allNodes, allFigureOutcome}
+use Rattle.desk.specs.Outcomes.{figureOutcome, allNodes, allFigureOutcome}
 use Rattle.desk.specs.Answers.{Encloses, Narrow, Marked, LiesWithin}
-use Rattle.desk.proofs.Answers.{answers}
 use Rattle.desk.proofs.Demands.{figure-range, figure-nesting, figure-width}
 use Rattle.desk.proofs.AllNodes.{figure-of-all, all-encloses, all-steps, all-marked}
 

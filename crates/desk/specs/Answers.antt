@@ -13,8 +13,8 @@ use Rattle.reliability.specs.declared.Difference.{Difference}
 use Rattle.tables.specs.Tables.{rating}
 use Rattle.plan.specs.Plans.{sizeN, sizeM, planOf}
 use Rattle.plan.specs.Weights.{exactAmong, lengths}
+use Rattle.causes.specs.Outcomes.{Outcome}
 use Rattle.answers.specs.Answers.{lowIn, highIn, stepsIn, finishedIn}
-use Rattle.desk.specs.Outcomes.{Outcome}
 
 -- a number of 32 bits read as signed: n stands for n, or for n - 2^32 where n is 2^31 or above
 unfoldable pub signed : ℕ → ℤ
@@ -62,8 +62,3 @@ pub record Full (o : Outcome) (b answer : List ℕ) : Type 0 where
   pub written : o .buffer ≡ answer
   pub later : drop 16 (o .buffer) ≡ drop 16 b
   pub size : length (o .buffer) ≡ length b
-
--- a numbered refusal, the buffer untouched
-pub record Refusal (o : Outcome) (b : List ℕ) : Type 0 where
-  pub numbered : 1 ≤ o .returned
-  pub untouched : o .buffer ≡ b

@@ -10,13 +10,14 @@ use Rattle.reliability.specs.Rule.{figure, tree}
 use Rattle.reliability.specs.Comparisons.{importance, difference}
 use Rattle.plan.specs.Plans.{verdict, planOf}
 use Rattle.causes.specs.declared.CallVerdict.{CallVerdict}
+use Rattle.causes.specs.Outcomes.{Outcome, unless}
 use Rattle.refusals.specs.Refusals.{asked, workRoom, planned, plannedSecond, placed, also}
 use Rattle.answers.specs.Answers.{withFigure}
 use Rattle.sittings.specs.Sittings.{begun, sitting}
 use Rattle.saved.specs.Format.{stateIn, takenIn, opensOf}
 use Rattle.saved_verdict.specs.SavedVerdict.{savedVerdict}
 use Rattle.sitting_desk.specs.Outcome.{SittingOutcome, carriedOn, givenAgain, unlessRefused}
-use Rattle.desk.specs.Outcomes.{Outcome, withDifference, unless}
+use Rattle.desk.specs.Outcomes.{withDifference}
 
 -- 7, 9, then 1 to 6
 abbrev pub builtInVerdict : List ℕ → ℕ → ℕ → CallVerdict

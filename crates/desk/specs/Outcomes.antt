@@ -11,10 +11,8 @@ use Rattle.reliability.specs.Comparisons.{importance, difference}
 use Rattle.search.specs.Searches.{nodesIn}
 use Rattle.tables.specs.Tables.{rating}
 use Rattle.plan.specs.Plans.{sizeN, verdict, returned, planOf}
-use Rattle.causes.specs.declared.CallVerdict.{CallVerdict}
-use Rattle.causes.specs.declared.CallVerdict.the-variants.{Accepted, Refused}
 use Rattle.answers.specs.Answers.{answered, withFigure}
-use Rattle.causes.specs.Causes.{callReturned}
+use Rattle.causes.specs.Outcomes.{Outcome, unless}
 use Rattle.refusals.specs.Refusals.{figureVerdict, chosenVerdict, importanceVerdict, differenceVerdict}
 
 -- two's complement in 32 bits
@@ -27,16 +25,6 @@ abbrev pub withDifference : Difference → List ℕ → List ℕ
 withDifference d b = answered (twos (d .low)) (twos (d .high)) (d .steps) (d .finished) b
 
 -- ---- outcomes
-
--- what a call returns, and the answer buffer at its end
-pub record Outcome : Type 0 where
-  pub returned : ℕ
-  pub buffer : List ℕ
-
--- accepted and answered, or refused with the buffer b as it was
-abbrev pub unless : CallVerdict → List ℕ → List ℕ → Outcome
-unless Accepted b answer = record { returned = 0; buffer = answer }
-unless (Refused c) b answer = record { returned = callReturned (Refused c); buffer = b }
 
 unfoldable pub checkOutcome : List ℕ → ℕ
 checkOutcome plan = returned (verdict plan)

@@ -1,7 +1,8 @@
-// The planning desk's five calls, for programs in C.
+// The planning desk's six calls, for programs in C.
 use causes::CallVerdict;
 ghost use mathlib.Core.Path.{_≡_};
 ghost use Rattle.sitting_desk.specs.Outcome.{sittingOutcome};
+ghost use Rattle.count_desk.specs.Counts.{countsOutcome};
 ghost use Rattle.desk.specs.Outcomes.{twos, checkOutcome, figureOutcome, importanceOutcome, differenceOutcome};
 
 // Two's complement in 32 bits.
@@ -105,4 +106,12 @@ pub extern "C" fn sitting(
     ensures { λ _. ⌜ now (work .exit) ≡ sittingOutcome (now (plan .entry)) (now (table .entry)) limit (now (saved .entry)) (now (answer .entry)) (now (work .entry)) .work ⌝ }
 {
     sitting_desk::sitting(plan, table, limit, saved, answer, work)
+}
+
+#[no_mangle]
+pub extern "C" fn counts(plan: &[u8], row: &mut [u64]) -> u64
+    ensures { λ r. ⌜ r ≡ countsOutcome (now (plan .entry)) (now (row .entry)) .returned ⌝ }
+    ensures { λ _. ⌜ now (row .exit) ≡ countsOutcome (now (plan .entry)) (now (row .entry)) .buffer ⌝ }
+{
+    count_desk::counts(plan, row)
 }

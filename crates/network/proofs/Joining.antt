@@ -41,15 +41,9 @@ pub record Joining (s n : Network) : Type 0 where
   pub same : unpaired (networkOf n) ≡ unpaired (networkOf s)
   pub chosen : n .chosen ≡ s .chosen
 
-module _ (s n : Network) (now : Joining s n) where
-  pairs : firstPair (linksOf n) ≡ paired (members (n .alive)) (pairIn (beside (n .a) (n .b)) (placesIn (n .alive)))
-  pairs = pair-rule n (now .sized) (no-loops n (now .sized) (now .loopless))
-
-  -- no pair is left
-  pub all-joined : pairIn (beside (n .a) (n .b)) (placesIn (n .alive)) ≡ Neither → (terminalsOf n ≡ among (chosenOf s) (unpaired (networkOf s))) × Invariant n
-  all-joined e =
-      let left = sym (unpaired-none (networkOf n) (pairs ∙ ap (paired (members (n .alive))) e)) ∙ now .same in
-      (ap₂ (λ (c : ℕ) (g : Graph). among (nodesIn c) g) (now .chosen) left, now .holds)
+module _ (n : Network) (sized : Sized n) (loopless : Loopless (networkOf n)) where
+  pub pairs : firstPair (linksOf n) ≡ paired (members (n .alive)) (pairIn (beside (n .a) (n .b)) (placesIn (n .alive)))
+  pairs = pair-rule n sized (no-loops n sized loopless)
 
   -- links i and j are the next pair
   module _ (i j : ℕ) (found : pairIn (beside (n .a) (n .b)) (placesIn (n .alive)) ≡ Both i j) where
@@ -59,8 +53,22 @@ module _ (s n : Network) (now : Joining s n) where
         let used : (k : ℕ) → _ → Used n k = λ k h. record { below = has-place (n .alive) k h; used = h } in
         (used i (mem-has (n .alive) i (m .0)), used j (mem-has (n .alive) j (m .1)))
 
+    pub next-pair : firstPair (linksOf n) ≡ some (indexOf n i, indexOf n j)
+    next-pair = pairs ∙ ap (paired (members (n .alive))) found
+
+module _ (s n : Network) (now : Joining s n) where
+  -- no pair is left
+  pub all-joined : pairIn (beside (n .a) (n .b)) (placesIn (n .alive)) ≡ Neither → (terminalsOf n ≡ among (chosenOf s) (unpaired (networkOf s))) × Invariant n
+  all-joined e =
+      let left = sym (unpaired-none (networkOf n) (pairs n (now .sized) (now .loopless) ∙ ap (paired (members (n .alive))) e)) ∙ now .same in
+      (ap₂ (λ (c : ℕ) (g : Graph). among (nodesIn c) g) (now .chosen) left, now .holds)
+
+  module _ (i j : ℕ) (found : pairIn (beside (n .a) (n .b)) (placesIn (n .alive)) ≡ Both i j) where
+    used : Used n i × Used n j
+    used = both-used n (now .sized) (now .loopless) i j found
+
     pair : firstPair (linksOf n) ≡ some (indexOf n i, indexOf n j)
-    pair = pairs ∙ ap (paired (members (n .alive))) found
+    pair = next-pair n (now .sized) (now .loopless) i j found
 
     -- they are joined
     module _ (others : ℕ) (one two lows highs : List ℕ) (cleared : members others ≡ set (members (n .alive)) j false)
@@ -73,7 +81,7 @@ module _ (s n : Network) (now : Joining s n) where
       stood =
           let e = row (getD (n .a) i 0) (getD (n .b) i 0) (parallel Down (getD (n .low) i 0) (getD (n .low) j 0)) (parallel Up (getD (n .high) i 0) (getD (n .high) j 0)) in
           let written = ap₂ (rows (n .a) (n .b)) low high ∙ rows-values (all-even n (now .sized)) i _ _ in
-          let links = joined-links n others j _ (both-used .1) cleared (now .sized) i e inParallel (both-used .0) written refl in
+          let links = joined-links n others j _ (used .1) cleared (now .sized) i e inParallel (used .0) written refl in
           λ t. record { nodes = nodesOf n; links = links t }
 
       own : Chosen (terminalsOf n)
@@ -91,7 +99,7 @@ module _ (s n : Network) (now : Joining s n) where
           high-length = ap length high ∙ length-set (n .high) i _ ∙ now .sized .high-length;
         };
         holds = stands r (ap (among (chosenOf n)) stood) (record { valid = pair-valid (networkOf n) (now .holds .valid) (indexOf n i) (indexOf n j) pair; ascending = own .ascending; nodes = own .nodes })
-            (taken-out n (now .sized) (now .holds) j (both-used .1) others one two cleared first second) .1;
+            (taken-out n (now .sized) (now .holds) j (used .1) others one two cleared first second) .1;
         loopless = subst Loopless (sym stood) (pair-loopless (networkOf n) (now .loopless) (indexOf n i) (indexOf n j) pair);
         same = ap unpaired stood ∙ sym (unpaired-here (networkOf n) (indexOf n i) (indexOf n j) pair) ∙ now .same;
         chosen = now .chosen;

@@ -3,7 +3,7 @@ use Prim.Native.Nat.{ℕ, zero, suc, _-_, _^_, _<_}
 use mathlib.Core.Path.{_≡_}
 use mathlib.Core.List.{List, [], _∷_, _++_}
 use mathlib.Core.Bool.{Bool, true, false}
-use lib.ListN.{length, getD, replicate}
+use lib.ListN.{length, getD, set, replicate}
 use Rattle.bits.specs.Members.{members, howMany}
 use Rattle.reliability.specs.declared.Link.{Link}
 use Rattle.reliability.specs.declared.Step.{Step}
@@ -53,6 +53,10 @@ terminalsOf n = among (chosenOf n) (networkOf n)
 pub record Used (n : Network) (p : ℕ) : Type 0 where
   pub below : p < 64
   pub used : getD (members (n .alive)) p false ≡ true
+
+-- r's places in use are those of n without p
+abbrev pub WithoutPlace : Network → ℕ → Network → Type 0
+WithoutPlace n p r = members (r .alive) ≡ set (members (n .alive)) p false
 
 -- the place of a link among the links then left
 abbrev pub indexOf : Network → ℕ → ℕ

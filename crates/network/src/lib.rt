@@ -13,7 +13,7 @@ ghost use Rattle.reliability.specs.Rule.{isLoop};
 ghost use Rattle.reliability.specs.Terminals.{among, endLeft, seriesLeft, soundLeft, brokenLeft};
 ghost use Rattle.reliability.specs.Simple.{Loopless, unpaired};
 ghost use Rattle.search.specs.Searches.{from, nodesIn, Inside};
-ghost use Rattle.network.specs.Places.{networkOf, terminalsOf, linksOf, nodesOf, chosenOf, indexOf, linkOf, Used, Invariant, Built, Fitting};
+ghost use Rattle.network.specs.Places.{networkOf, terminalsOf, linksOf, nodesOf, chosenOf, indexOf, linkOf, Used, WithoutPlace, Invariant, Built, Fitting};
 
 pub struct Network {
     pub alive: u64,
@@ -86,7 +86,7 @@ impl Network {
     // Link i goes.
     pub fn deleted(mut self, i: usize) -> Network
         requires { ⌜ Invariant self × Used self i ⌝ }
-        ensures { λ r. ⌜ (terminalsOf r ≡ brokenLeft (indexOf self i) (terminalsOf self)) × Invariant r ⌝ }
+        ensures { λ r. ⌜ (terminalsOf r ≡ brokenLeft (indexOf self i) (terminalsOf self)) × Invariant r × WithoutPlace self i r ⌝ }
     {
         let x = self.a[i];
         let y = self.b[i];
@@ -170,7 +170,7 @@ impl Network {
     // Step 7, sound: link i, no loop, goes, and its larger end is renamed to the smaller, which is chosen if either was.
     pub fn contracted(mut self, i: usize) -> Network
         requires { ⌜ Invariant self × Used self i × (isLoop (linkOf self i) ≡ false) ⌝ }
-        ensures { λ r. ⌜ (terminalsOf r ≡ soundLeft (indexOf self i) (terminalsOf self)) × Invariant r ⌝ }
+        ensures { λ r. ⌜ (terminalsOf r ≡ soundLeft (indexOf self i) (terminalsOf self)) × Invariant r × WithoutPlace self i r ⌝ }
     {
         let first = self.a[i];
         let second = self.b[i];

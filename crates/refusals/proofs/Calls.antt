@@ -36,7 +36,7 @@ second-returned c = omega arith
 -- ---- what is accepted
 
 -- what is not refused for a cause does not meet it
-unmet : (t : Bool) (c : CallCause) (v : CallVerdict) → cond t (Refused c) v ≡ Accepted → (t ≡ false) × (v ≡ Accepted)
+pub unmet : (t : Bool) (c : CallCause) (v : CallVerdict) → cond t (Refused c) v ≡ Accepted → (t ≡ false) × (v ≡ Accepted)
 unmet true c v e = let z : _≡_ {A = ℕ} 0 1 = cc in absurd (omega arith)
 unmet false c v e = (refl, e)
 

@@ -39,7 +39,7 @@ fn sitting_asked(limit: u64, room: usize, work: usize) -> CallVerdict
 }
 
 // Causes 1 to 6, of plan A.
-fn plan_verdict(plan: &[u8]) -> CallVerdict
+pub fn plan_verdict(plan: &[u8]) -> CallVerdict
     ensures { λ r. ⌜ r ≡ planned (verdict (now (plan .entry))) ⌝ }
 {
     match plan::verdict_of(plan) {

@@ -94,7 +94,7 @@ made-one keep gone x y = by-eqb (λ b. cond b keep x ≡ rename keep gone y → 
     Either = (x ≡ y) ⊎ Joins (record { a = x; b = y }) gone keep
 
 module _ (g : Network) (loopless : Loopless g) where
-  no-loop : (e : Link) → List·Memᴰ e (g .links) → isLoop e ≡ false
+  pub no-loop : (e : Link) → List·Memᴰ e (g .links) → isLoop e ≡ false
   no-loop = none-found isLoop (g .links) .0 loopless
 
   pub deleted-loopless : (i : ℕ) → Loopless (deleted i g)
@@ -103,7 +103,7 @@ module _ (g : Network) (loopless : Loopless g) where
   pub deleted-pairless : Pairless g → (i : ℕ) → Pairless (deleted i g)
   deleted-pairless pairless i = no-pair (deleteAt i (g .links)) .1 (distinct-delete (g .links) i (no-pair (g .links) .0 pairless))
 
-  joined-loopless : (i j : ℕ) (e : Link) → i < j → isLoop e ≡ false → Loopless (joined i j e g)
+  pub joined-loopless : (i j : ℕ) (e : Link) → i < j → isLoop e ≡ false → Loopless (joined i j e g)
   joined-loopless i j e order h = none-found isLoop (joined i j e g .links) .1 (λ f m.
       ⊎-elim (λ (q : f ≡ e). ap isLoop q ∙ h) (λ n. no-loop f (mem-delete j (g .links) (mem-delete i (deleteAt j (g .links)) n))) (mem-joined (g .links) i j order m))
 

@@ -243,7 +243,7 @@ module _ (vs ws : List ℕ) (keep gone : ℕ) (differ : keep ≡ gone → ⊥) (
   shrunk : (es : List Weighted) → AllOff gone es → (t s : List Ends) → Contracts t s → sum vs es t ≡ sum ws es s
   shrunk es off t s k = contracted es t s k ∙ ap (λ l. sum ws l s) (moved-off keep gone es off)
 
-  pendant : (es : List Weighted) → AllOff gone es → (e : Ends) → Joins e gone keep → sum vs es (e ∷ []) ≡ sum ws es []
+  pub pendant : (es : List Weighted) → AllOff gone es → (e : Ends) → Joins e gone keep → sum vs es (e ∷ []) ≡ sum ws es []
   pendant es off e j = shrunk es off (e ∷ []) [] (contracts e j)
 
 -- a node that no link touches, with another beside it: nothing connects

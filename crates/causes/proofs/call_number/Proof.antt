@@ -35,6 +35,12 @@ enum-told-7 c = search needs
 enum-told-8 : tie.Need-enum-told-8
 enum-told-8 c = search needs
 
+enum-told-9 : tie.Need-enum-told-9
+enum-told-9 c = search needs
+
+enum-told-10 : tie.Need-enum-told-10
+enum-told-10 c = search needs
+
 enum-known-c : tie.Need-enum-known-c
 enum-known-c c = search needs
 
@@ -77,12 +83,18 @@ returns-8 c = search needs
 returns-9 : tie.Need-returns-9
 returns-9 c = search needs
 
+returns-10 : tie.Need-returns-10
+returns-10 c = search needs
+
+returns-11 : tie.Need-returns-11
+returns-11 c = search needs
+
 -- plan B's number is 20 more
 second : (c : CallCause) (p : Cause) {n : ℕ} → c ≡ SecondPlan p → n ≡ number p → n + 20 ≡ callNumber c
 second c p e q = rw (e, q) refl
 
-returns-10 : tie.Need-returns-10
-returns-10 c = second _ _ (c .before .before .c2 .given .1) (c .number-of2 .ensures)
+returns-12 : tie.Need-returns-12
+returns-12 c = second _ _ (c .before .before .c2 .given .1) (c .number-of2 .ensures)
 
 pub call-number-spec : {M : Type 1} → statement M
 call-number-spec =
@@ -96,6 +108,8 @@ call-number-spec =
     enum-told-6
     enum-told-7
     enum-told-8
+    enum-told-9
+    enum-told-10
     enum-known-c
     number-of-requires
     enum-known-c-2
@@ -110,4 +124,6 @@ call-number-spec =
     returns-7
     returns-8
     returns-9
-    returns-10)
+    returns-10
+    returns-11
+    returns-12)

@@ -14,11 +14,11 @@ use Rattle.causes.specs.declared.CallCause.{CallCause}
 use Rattle.causes.specs.declared.CallVerdict.{CallVerdict}
 use Rattle.causes.specs.declared.CallVerdict.the-variants.{Accepted, Refused}
 use Rattle.causes.specs.Causes.{callReturned}
+use Rattle.causes.proofs.Outcomes.{refused, answers}
 use Rattle.refusals.specs.Refusals.{plannedSecond, also, figureVerdict, differenceVerdict}
 use Rattle.refusals.proofs.Calls.{figure-asks, second-means, also-means}
 use Rattle.answers.specs.Answers.{answered}
 use Rattle.desk.specs.Outcomes.{twos, withDifference, differenceOutcome}
-use Rattle.desk.proofs.Answers.{refused, answers}
 use borrow.Author.Needs.{needs}
 use Rattle.desk.proofs.difference.Statement.{statement}
 use Rattle.desk.proofs.difference.Tie as tie

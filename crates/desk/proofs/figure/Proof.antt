@@ -16,11 +16,11 @@ use Rattle.plan.proofs.Verdicts.{accepted-means}
 use Rattle.plan.proofs.Accepted.{within}
 use Rattle.causes.specs.declared.CallVerdict.the-variants.{Accepted}
 use Rattle.causes.specs.Causes.{callReturned}
+use Rattle.causes.proofs.Outcomes.{refused, answers}
 use Rattle.refusals.specs.Refusals.{chosenVerdict}
 use Rattle.refusals.proofs.Calls.{chosen-asks}
 use Rattle.answers.specs.Answers.{withFigure}
 use Rattle.desk.specs.Outcomes.{chosenBy, figureOutcome}
-use Rattle.desk.proofs.Answers.{refused, answers}
 use borrow.Author.Needs.{needs}
 use Rattle.desk.proofs.figure.Statement.{statement}
 use Rattle.desk.proofs.figure.Tie as tie

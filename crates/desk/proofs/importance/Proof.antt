@@ -11,11 +11,11 @@ use Rattle.network.proofs.Picks.{built-used}
 use Rattle.loading.proofs.Stands.{stands-importance}
 use Rattle.causes.specs.declared.CallVerdict.the-variants.{Accepted}
 use Rattle.causes.specs.Causes.{callReturned}
+use Rattle.causes.proofs.Outcomes.{refused, answers}
 use Rattle.refusals.specs.Refusals.{placed, figureVerdict, importanceVerdict}
 use Rattle.refusals.proofs.Calls.{figure-asks, placed-means, also-means}
 use Rattle.answers.specs.Answers.{withFigure}
 use Rattle.desk.specs.Outcomes.{importanceOutcome}
-use Rattle.desk.proofs.Answers.{refused, answers}
 use borrow.Author.Needs.{needs}
 use Rattle.desk.proofs.importance.Statement.{statement}
 use Rattle.desk.proofs.importance.Tie as tie

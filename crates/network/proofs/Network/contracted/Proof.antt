@@ -84,8 +84,9 @@ returns c =
     let higher = c .before .before .before .before .before .before .before .before .before .before .before .before .before .higher in
     let lower = c .before .before .before .before .before .before .before .before .before .before .before .before .before .before .lower in
     let s = c .before .before .before .before .before .before .before .before .before .before .before .before .before .before .before .before .before in
-    contracts (s .args .t1) (sized s) (s .pre .0) (s .args .i) (s .pre .1) (s .pre .2) (lower .result) (higher .result) (lower .ensures) (higher .ensures) (c .without .result) (c .before .before .without-node .result) (c .before .into .result) (m .result) (one .last .0) (two .last .0) (m .last .0) (x .last .0) (y .last .0)
-    (c .without .ensures) (c .before .before .without-node .ensures) (c .before .into .ensures) (one .ensures) (two .ensures) (m .ensures .0) (m .ensures .1) (x .ensures) (y .ensures)
+    let k = contracts (s .args .t1) (sized s) (s .pre .0) (s .args .i) (s .pre .1) (s .pre .2) (lower .result) (higher .result) (lower .ensures) (higher .ensures) (c .without .result) (c .before .before .without-node .result) (c .before .into .result) (m .result) (one .last .0) (two .last .0) (m .last .0) (x .last .0) (y .last .0)
+    (c .without .ensures) (c .before .before .without-node .ensures) (c .before .into .ensures) (one .ensures) (two .ensures) (m .ensures .0) (m .ensures .1) (x .ensures) (y .ensures) in
+    (k .0, k .1, c .without .ensures)
 
 pub contracted-spec : {M : Type 1} → statement M
 contracted-spec =

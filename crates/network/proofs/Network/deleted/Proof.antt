@@ -34,7 +34,8 @@ returns c =
     let t = c .before .take-out2 in
     let f = c .before .before .before .take-out in
     let s = c .before .before .before .before .before .before .before in
-    deletes (s .args .t1) (sized s) (s .pre .0) (s .args .i) (s .pre .1) (c .without .result) (f .last .0) (t .last .0) (c .without .ensures) (f .ensures) (t .ensures)
+    let k = deletes (s .args .t1) (sized s) (s .pre .0) (s .args .i) (s .pre .1) (c .without .result) (f .last .0) (t .last .0) (c .without .ensures) (f .ensures) (t .ensures) in
+    (k .0, k .1, c .without .ensures)
 
 pub deleted-spec : {M : Type 1} → statement M
 deleted-spec =

@@ -39,7 +39,7 @@ found : (k : tie.After-known-told Inv-loop μ-loop) → let n = turn k .loop .se
 found k = sym (k .before .before .before .first-pair .ensures) ∙ k .before .i .given .1
 
 both : (k : tie.After-known-told Inv-loop μ-loop) → let p = k .before .i .given .0 in Used (turn k .loop .self) (p .0) × Used (turn k .loop .self) (p .1 .0)
-both k = both-used _ (turn k .loop .self) (turn k .loop .inv) _ _ (found k)
+both k = let h = turn k .loop in both-used (h .self) (h .inv .sized) (h .inv .loopless) _ _ (found k)
 
 below : (k : tie.After-known-told Inv-loop μ-loop) → let p = k .before .i .given .0 in (p .0 < 64) × (p .1 .0 < 64)
 below k = (both k .0 .below, both k .1 .below)

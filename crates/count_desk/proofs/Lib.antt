@@ -1,0 +1,4 @@
+pub mod Verdicts
+pub mod Demands
+pub mod Examples
+pub mod Polynomial

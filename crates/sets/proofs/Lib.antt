@@ -1,0 +1,5 @@
+pub mod Worths
+pub mod Counting
+pub mod Polynomial
+pub mod Few
+pub mod Examples
