@@ -63,8 +63,8 @@
    The slowest of 400 random plans took about as long a step. A sitting takes about as long as a figure under its limit:
    about 0.4 seconds for a first sitting of the mesh at 1,000,000. A later one walks down the open splits first, which
    with 55 of them took less than a ten-thousandth of a second. A table took figure less than a millionth of a second
-   more. A call cannot be stopped; a smaller limit ends it sooner. Counts has no steps and no limit: how long it takes goes
-   by the plan, and bench/run prints what the slowest plan that was found takes. */
+   more. A call cannot be stopped; a smaller limit ends it sooner. Counts has no steps and no limit: the
+   slowest plan that was found took it about a hundredth of a second. */
 
 #ifndef PLANDESK_H
 #define PLANDESK_H
