@@ -9,8 +9,27 @@ ghost use lib.ListN.{length, drop};
 ghost use Rattle.polynomials.specs.Rows.{eval};
 ghost use Rattle.sets.specs.Sets.{connectingRow};
 ghost use Rattle.sets.specs.Bundles.{worth};
-ghost use Rattle.network.specs.Places.{networkOf, linksOf, Invariant};
+ghost use Rattle.network.specs.Places.{networkOf, linksOf, Invariant, Fitting};
+ghost use Rattle.network.specs.Workable.{Workable};
+ghost use Rattle.steps.specs.Simple.{stepOf};
 ghost use Rattle.counting.specs.Countable.{Countable};
+
+// Which step fits a simple network.
+fn step(n: Network) -> Next
+    requires { ⌜ Workable n ⌝ }
+    ensures { λ r. ⌜ Fitting n (stepOf r) ⌝ }
+{
+    steps::step(
+        n.alive,
+        n.nodes,
+        n.chosen,
+        &n.at,
+        &n.a,
+        &n.b,
+        &n.low,
+        &n.high,
+    )
+}
 
 // The row of a network: entry i counts the sets of i of what its links stand for that connect all nodes. By the steps of the written
 // rule; links i and j of a node are worked as a split on j, where the row with i alone serves both branches.
@@ -26,16 +45,7 @@ fn work(net: Network) -> [u64; 25]
     if 1 < simple::pieces(n) {
         return polynomials::nothing();
     }
-    match steps::step(
-        n.alive,
-        n.nodes,
-        n.chosen,
-        &n.at,
-        &n.a,
-        &n.b,
-        &n.low,
-        &n.high,
-    ) {
+    match step(n) {
         Next::OneNode => polynomials::one(),
         Next::End(_, e) => {
             let c = n.low[e];

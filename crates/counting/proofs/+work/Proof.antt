@@ -37,7 +37,7 @@ use Rattle.polynomials.proofs.split.Reads as split-reads
 use Rattle.polynomials.proofs.times.Reads as times-reads
 use Rattle.search.proofs.first_loop.Reads as first-loop-reads
 use Rattle.simple.proofs.pieces.Reads as pieces-reads
-use Rattle.steps.proofs.step.Reads as step-reads
+use Rattle.counting.proofs.step.Reads as step-reads
 use Rattle.counting.proofs.+work.{statement}
 use Rattle.counting.proofs.+work.Tie.{close}
 
@@ -201,10 +201,10 @@ module _ (t : ℕ) (e : Else t) where
   workable = work-of given net (from .pre .1) made sized-net few
 
 work-step-requires : (t : ℕ) → work-lts.Need-step-requires (claims t) (work-at t) work.Post
-work-step-requires t c κs = workable t (c .before .before .before .before .before .before)
+work-step-requires t c κs = workable t c
 
 abbrev at : (t : ℕ) → Stepped t → Else t
-at t a = a .before .before .before .before .before .before .before
+at t a = a .before
 
 fitting : (t : ℕ) (a : Stepped t) (r : Next) → a .step .result ≡ r → Fitting (net t (at t a)) (stepOf r)
 fitting t a r e = subst (λ (q : Next). Fitting (net t (at t a)) (stepOf q)) e (a .step .ensures)
