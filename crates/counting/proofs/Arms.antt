@@ -13,19 +13,19 @@ use Rattle.reliability.specs.declared.Step.{Step}
 use Rattle.reliability.specs.declared.Step.the-variants.{OneNode, End, Series, Split}
 use Rattle.reliability.specs.Networks.{Network as Graph, linkAt, piecesOf}
 use Rattle.reliability.specs.Rule.{isLoop, firstAt, deleted, deleteAt, renamed}
-use Rattle.reliability.specs.Terminals.{Terminals, soundLeft, brokenLeft}
+use Rattle.reliability.specs.Terminals.{soundLeft, brokenLeft}
 use Rattle.reliability.specs.Simple.{Loopless, Plain}
 use Rattle.reliability.proofs.Lists.{getD-mem, length-delete}
 use Rattle.reliability.proofs.Validity.{proper-at, across-node}
 use Rattle.reliability.proofs.Searches.{Answers, Holds, Fails, first-at}
-use Rattle.reliability.proofs.Steps.{AtLoop, AtEnd, AtSeries, AtSplit}
+use Rattle.reliability.proofs.Steps.{AtLoop, AtSeries, AtSplit}
 use Rattle.reliability.proofs.TerminalSteps.{Fits as FitsStep}
 use Rattle.reliability.proofs.Simple.{no-loop, deleted-loopless, contracted-plain}
 use Rattle.polynomials.specs.Rows.{some, Fits}
 use Rattle.sets.specs.Bundles.{worth, most}
-use Rattle.sets.proofs.Worths.{soundAt, leg-differ, worth-one-node, worth-loop, worth-end, worth-split, with-later, without-later, most-contracted, fewer-sets}
+use Rattle.sets.proofs.Worths.{soundAt, worth-one-node, worth-loop, worth-end, worth-split, with-later, without-later, most-contracted, fewer-sets}
 use Rattle.network.specs.declared.Network.{Network}
-use Rattle.network.specs.Places.{networkOf, terminalsOf, linksOf, nodesOf, chosenOf, indexOf, linkOf, Used, WithoutPlace, Invariant, Sized, ranked, Placed, Fitting}
+use Rattle.network.specs.Places.{networkOf, terminalsOf, linksOf, nodesOf, chosenOf, indexOf, linkOf, Used, WithoutPlace, Invariant, Sized, ranked, Fitting}
 use Rattle.network.specs.Workable.{Workable}
 use Rattle.network.proofs.Picks.{index-within, link-at}
 use Rattle.network.proofs.Kept.{known}

@@ -4,7 +4,7 @@ use mathlib.Core.Path.{_≡_, refl, sym, ap, ap₂, _∙_, subst}
 use mathlib.Core.List.{List, [], _∷_, map, map-map, List·Memᴰ, List·Memᴰ·head, Memᴰ·of-map}
 use mathlib.Core.Bool.{false}
 use mathlib.Core.Logic.{inl, ⊎-elim}
-use native.Mathlib.Nat.{mul-assoc, mul-comm, mul-add, add-mul, mul-left-comm, add-assoc, add-comm, add-left-comm, mul-one, one-mul, le-refl, le-trans, le-of-eq, mul-le-mul-left, not-suc-le-zero, le-of-suc-le-suc}
+use native.Mathlib.Nat.{add-mul, mul-left-comm, mul-one, one-mul, le-refl, mul-le-mul-left, not-suc-le-zero, le-of-suc-le-suc}
 use native.Mathlib.Omega.{arith}
 use lib.ListN.{length, getD, set, List·getD-map, length-map, length-set}
 use lib.Seq.{getD-set-same}

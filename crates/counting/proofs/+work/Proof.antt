@@ -3,7 +3,7 @@ use mathlib.Core.Path.{_≡_, sym, ap, subst, _∙_}
 use mathlib.Core.Option.{some as found}
 use native.Mathlib.Omega.{arith}
 use lib.ListN.{length, getD}
-use Rattle.reliability.specs.declared.Step.the-variants.{OneNode, End, Series, Split}
+use Rattle.reliability.specs.declared.Step.the-variants.{End, Series}
 use Rattle.reliability.specs.Networks.{Network as Graph, piecesOf}
 use Rattle.reliability.specs.Rule.{isLoop, firstAt, deleted}
 use Rattle.reliability.specs.Simple.{Loopless}

@@ -1,14 +1,14 @@
-use Prim.Native.Nat.{ℕ, zero, suc, _+_, _-_, _≤_, _<_}
-use mathlib.Core.Path.{_≡_, refl, sym, ap, ap₂, _∙_, subst}
+use Prim.Native.Nat.{ℕ, suc, _+_, _-_, _≤_, _<_}
+use mathlib.Core.Path.{_≡_, refl, sym, ap, _∙_, subst}
 use mathlib.Core.List.{List, [], _∷_, _++_, append-assoc}
 use mathlib.Core.Bool.{Bool, true, false}
 use native.Mathlib.Numerals.{add-one}
 use native.Mathlib.Omega.{arith}
-use lib.ListN.{length, take, drop, set, getD, length-take, length-drop, length-append}
-use lib.Seq.{take-suc, drop-cons, set-at, append-snoc}
+use lib.ListN.{length, take, drop, set, getD, length-take}
+use lib.Seq.{take-suc, drop-cons, set-at}
 use Rattle.bits.specs.Members.{members, howMany}
 use Rattle.bits.proofs.Digits.{length-digits}
-use Rattle.reliability.specs.Networks.{Network as Graph, Valid}
+use Rattle.reliability.specs.Networks.{Network as Graph}
 use Rattle.network.specs.declared.Network.{Network}
 use Rattle.search.specs.Searches.{pick, nodesIn}
 use Rattle.network.specs.Places.{linksOf, networkOf, Invariant, Sized}
@@ -20,11 +20,6 @@ use Rattle.counting.specs.Countable.{Countable}
 use borrow.Author.Needs.{needs}
 use Rattle.counting.proofs.fill.Statement.{statement}
 use Rattle.counting.proofs.fill.Tie as tie
-use Rattle.counting.proofs.fill.Reads as reads
-use Rattle.counting.proofs.fill.Lts as lts
-use Rattle.bits.proofs.count.Reads as count-reads
-use Rattle.counting.proofs.work.Reads as work-reads
-use Rattle.bundles.proofs.single.Reads as single-reads
 
 -- as many are picked as there are places
 length-pick : {A : Type 0} (bs : List Bool) (xs : List A) → length bs ≡ length xs → length (pick bs xs) ≡ howMany bs

@@ -10,8 +10,6 @@ use Rattle.polynomials.proofs.Evals.{grown, grown-length, grown-first, 
 use borrow.Author.Needs.{needs}
 use Rattle.polynomials.proofs.more.Statement.{statement}
 use Rattle.polynomials.proofs.more.Tie as tie
-use Rattle.polynomials.proofs.more.Reads as reads
-use Rattle.polynomials.proofs.more.Lts as lts
 
 abbrev Inv-loop : tie.InvT-loop
 Inv-loop t p r₀ i₀ r i = (i ≤ 24) × (length r ≡ 25) × (take (suc i) r ≡ take (suc i) (grown t p))

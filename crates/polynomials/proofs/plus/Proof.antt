@@ -10,8 +10,6 @@ use Rattle.polynomials.proofs.Evals.{added, length-added, getD-added, e
 use borrow.Author.Needs.{needs}
 use Rattle.polynomials.proofs.plus.Statement.{statement}
 use Rattle.polynomials.proofs.plus.Tie as tie
-use Rattle.polynomials.proofs.plus.Reads as reads
-use Rattle.polynomials.proofs.plus.Lts as lts
 
 abbrev Inv-loop : tie.InvT-loop
 Inv-loop p q r₀ i₀ r i = (i ≤ 25) × (length r ≡ 25) × (take i r ≡ take i (added p q))
