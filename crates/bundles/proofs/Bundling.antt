@@ -3,7 +3,6 @@ use Prim.Native.Nat.{ℕ, _+_, _≤_, _<_}
 use mathlib.Core.Path.{_≡_, refl, sym, ap, subst, _∙_}
 use mathlib.Core.List.{List}
 use mathlib.Core.Bool.{false}
-use mathlib.Core.Option.{some}
 use native.Mathlib.Nat.{le-refl}
 use native.Mathlib.Omega.{arith}
 use lib.ListN.{length, getD, set, length-set}
@@ -14,7 +13,7 @@ use Rattle.rounding.specs.declared.Direction.the-variants.{Down, Up}
 use Rattle.bits.specs.Members.{members}
 use Rattle.reliability.specs.declared.Link.{Link}
 use Rattle.reliability.specs.Networks.{Network as Graph, Valid, Proper, value, linkAt}
-use Rattle.reliability.specs.Rule.{firstPair, joined}
+use Rattle.reliability.specs.Rule.{joined}
 use Rattle.reliability.specs.Simple.{Loopless}
 use Rattle.reliability.specs.Terminals.{Chosen, among}
 use Rattle.reliability.proofs.Lists.{getD-mem, length-delete}

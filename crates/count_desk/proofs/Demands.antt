@@ -1,17 +1,15 @@
 -- What is promised of the call, for all inputs.
-use Prim.Native.Nat.{ℕ, zero, suc, _+_, _≤_, _<_}
+use Prim.Native.Nat.{ℕ, zero, suc, _+_, _≤_}
 use mathlib.Core.Path.{_≡_, refl, sym, ap, ap₂, _∙_}
 use mathlib.Core.List.{List, [], _∷_, _++_, map}
 use mathlib.Core.Logic.{_⊎_, inl, inr, _↔_, Iff·trans}
-use native.Mathlib.Nat.{zero-add}
 use native.Mathlib.Omega.{arith}
-use lib.ListN.{length, drop, getD, length-map, length-append, length-drop, List·getD-append}
+use lib.ListN.{length, drop, getD, length-append, length-drop, List·getD-append}
 use lib.Seq.{drop-nil}
 use Rattle.ratings.specs.Ratings.{T}
 use Rattle.reliability.specs.Networks.{ends, connected}
 use Rattle.plan.specs.Plans.{WellFormed, sizeN, sizeM, linkIn, planOf}
-use Rattle.plan.proofs.Accepted.{length-from, plan-links}
-use Rattle.plan.proofs.Links.{at-place}
+use Rattle.plan.proofs.Accepted.{plan-links}
 use Rattle.causes.specs.declared.CallCause.{CallCause}
 use Rattle.causes.specs.declared.CallVerdict.{CallVerdict}
 use Rattle.causes.specs.declared.CallVerdict.the-variants.{Accepted, Refused}
@@ -21,6 +19,7 @@ use Rattle.causes.proofs.Laws.{call-number-range}
 use Rattle.causes.proofs.Outcomes.{returned-of, zero-of}
 use Rattle.search.specs.Searches.{from}
 use Rattle.sets.specs.Sets.{sets, howMany, connectingSets, connectingRow}
+use Rattle.sets.proofs.Counting.{row-length, row-entry}
 use Rattle.count_desk.specs.Counts.{countsVerdict, filled, countsOutcome, Counted}
 use Rattle.count_desk.proofs.Verdicts.{counts-means}
 
@@ -45,10 +44,10 @@ module _ (plan row : List ℕ) where
 
   -- m + 1 entries
   counted-length : length counted ≡ suc (sizeM plan)
-  counted-length = length-map (from 0 (suc (length (planOf T plan .links)))) (connectingSets (planOf T plan)) ∙ length-from 0 (suc (length (planOf T plan .links))) ∙ ap suc (plan-links T plan)
+  counted-length = row-length (planOf T plan) ∙ ap suc (plan-links T plan)
 
   entry : (i : ℕ) → i ≤ sizeM plan → getD counted i 0 ≡ connectingSets (planOf T plan) i
-  entry i h = at-place (connectingSets (planOf T plan)) 0 0 (suc (length (planOf T plan .links))) i (omega (arith, plan-links T plan)) ∙ ap (connectingSets (planOf T plan)) (zero-add i)
+  entry i h = row-entry (planOf T plan) i (omega (arith, plan-links T plan))
 
   -- the number is that of the first cause in order, 0 if there is none
   pub counts-returned : o .returned ≡ callReturned v

@@ -5,7 +5,6 @@ use mathlib.Core.List.{List, [], _∷_, map}
 use mathlib.Core.Bool.{true}
 use mathlib.Core.Logic.{_↔_}
 use native.Mathlib.Omega.{arith}
-use lib.ListN.{length}
 use Rattle.rounding.specs.Rounding.{S}
 use Rattle.ratings.specs.Ratings.{T}
 use Rattle.ratings.proofs.Laws.{built-in-range}

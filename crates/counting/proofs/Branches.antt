@@ -1,37 +1,32 @@
 -- What is worked next is countable, and the rows it makes.
-use Prim.Native.Nat.{ℕ, zero, suc, _+_, _*_, _^_, _≤_, _<_, min, max, zero-le, suc-le-suc}
-use mathlib.Core.Path.{_≡_, refl, sym, ap, ap₂, _∙_, subst}
-use mathlib.Core.List.{List, [], _∷_, _++_, map, List·Memᴰ, Memᴰ·of-map, List·Memᴰ·append-cases}
+use Prim.Native.Nat.{ℕ, zero, suc, _≤_, _<_, min, max, zero-le, suc-le-suc}
+use mathlib.Core.Path.{_≡_, refl, sym, ap, _∙_, subst}
+use mathlib.Core.List.{List, [], _∷_, map, List·Memᴰ, Memᴰ·of-map, List·Memᴰ·append-cases}
 use mathlib.Core.Bool.{Bool, true, false, not}
 use mathlib.Core.Logic.{⊎-elim}
 use native.Mathlib.Nat.{le-refl, le-trans, le-of-eq, not-suc-le-zero}
 use native.Mathlib.Omega.{arith}
-use lib.Dec.{eqb}
 use lib.ListN.{length, getD, set, length-map}
 use borrow.Author.Tests.{eq-eqb, ne-eqb, eqb-false}
 use Rattle.bits.specs.Members.{members}
 use Rattle.reliability.specs.declared.Link.{Link}
-use Rattle.reliability.specs.declared.Step.{Step}
-use Rattle.reliability.specs.declared.Step.the-variants.{OneNode, End, Series, Split}
 use Rattle.reliability.specs.Networks.{Network as Graph, Valid, ends, linkAt, every, connected, together, lastOfEach, pieces, piecesOf}
 use Rattle.reliability.specs.Rule.{isLoop, deleted, deleteAt, renamed}
-use Rattle.reliability.specs.Terminals.{Terminals, Chosen, among, everywhere, soundLeft, brokenLeft}
-use Rattle.reliability.specs.Simple.{Loopless, Simple, anchors, Connected}
-use Rattle.reliability.proofs.Lists.{getD-mem, length-delete}
+use Rattle.reliability.specs.Terminals.{Terminals, among, everywhere, soundLeft, brokenLeft}
+use Rattle.reliability.specs.Simple.{anchors, Connected}
+use Rattle.reliability.proofs.Lists.{length-delete}
 use Rattle.reliability.proofs.Connection.{connected-within}
 use Rattle.reliability.proofs.Pieces.{one-piece}
-use Rattle.reliability.proofs.Steps.{AtLoop, AtEnd, AtSeries, AtSplit}
-use Rattle.reliability.proofs.TerminalSteps.{Fits as FitsStep}
+use Rattle.reliability.proofs.Steps.{AtSplit}
 use Rattle.reliability.proofs.Everywhere.{sound-everywhere}
-use Rattle.reliability.proofs.Simple.{no-loop, deleted-loopless, contracted-plain}
-use Rattle.polynomials.specs.Rows.{some, Fits}
+use Rattle.polynomials.specs.Rows.{Fits}
 use Rattle.sets.specs.Bundles.{worth, most}
-use Rattle.sets.proofs.Worths.{soundAt, leg-differ, worth-most, worth-one-node, worth-disconnected, worth-loop, worth-end, worth-split, with-later, without-later, most-contracted, fewer-sets}
+use Rattle.sets.proofs.Worths.{soundAt, worth-most, most-contracted, fewer-sets}
 use Rattle.network.specs.declared.Network.{Network}
-use Rattle.network.specs.Places.{rank, networkOf, terminalsOf, linksOf, nodesOf, chosenOf, indexOf, linkOf, Used, WithoutPlace, Invariant, Sized, ranked, Fitting}
+use Rattle.network.specs.Places.{rank, networkOf, terminalsOf, linksOf, nodesOf, chosenOf, indexOf, linkOf, Used, WithoutPlace, Invariant, Sized}
 use Rattle.network.specs.Workable.{Workable}
 use Rattle.network.proofs.Picks.{index-within}
-use Rattle.network.proofs.Kept.{chosen-of, known}
+use Rattle.network.proofs.Kept.{chosen-of}
 use Rattle.search.specs.Searches.{nodesIn}
 use Rattle.bundles.specs.Bundled.{Bundled}
 use Rattle.counting.specs.Countable.{Countable}
@@ -128,7 +123,7 @@ module _ (n : Network) (sized : Sized n) (c : Countable n) (i : ℕ) (u : Used n
       (is ∙ ap (soundLeft k) (everywhere-of n (c .all)) ∙ sound-everywhere g (c .holds .valid) k (at-split h))
 
 -- a branch of a branch
-pub onward : (n r q : Network) (h : Graph) → length (linksOf r) < length (linksOf n) → Branch r h q → Branch n h q
+pub onward : (n r q : Network) (h : Graph) → length (linksOf r) ≤ length (linksOf n) → Branch r h q → Branch n h q
 onward n r q h less b = record { stands = b .stands; countable = b .countable; fewer = omega (arith, b .fewer) }
 
 -- ---- a place before one that goes

@@ -1,5 +1,4 @@
 -- Networks by value whose sets are counted.
-use Prim.Native.Nat.{ℕ}
 use mathlib.Core.Path.{_≡_}
 use Rattle.polynomials.specs.Rows.{Fits}
 use Rattle.sets.specs.Bundles.{most}

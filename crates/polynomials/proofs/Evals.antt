@@ -2,7 +2,7 @@
 use Prim.Native.Nat.{ℕ, zero, suc, _+_, _-_, _*_, _^_, _%_, _/_, _≤_, _<_, zero-le}
 use mathlib.Core.Path.{_≡_, refl, sym, ap, ap₂, _∙_}
 use mathlib.Core.List.{List, [], _∷_, _++_}
-use native.Mathlib.Nat.{mul-assoc, mul-comm, mul-add, add-mul, mul-left-comm, add-assoc, add-comm, add-left-comm, mul-zero, zero-mul, mul-one, one-mul, add-zero, zero-add, mul-suc, pow-zero, pow-succ', add-suc, add-sub-of-le, mul-le-mul-left, mul-le-mul-right, add-le-add, le-refl, le-trans, le-add-right, not-suc-le-zero, le-of-suc-le-suc, mod-eq-of-lt, add-mul-mod-self-left, mul-div-cancel-left}
+use native.Mathlib.Nat.{add-assoc, mul-zero, mul-one, one-mul, add-zero, zero-add, mul-suc, pow-zero, pow-succ', add-suc, add-sub-of-le, mul-le-mul-left, le-refl, le-trans, le-add-right, mod-eq-of-lt, add-mul-mod-self-left, mul-div-cancel-left}
 use native.Mathlib.Omega.{arith}
 use borrow.Author.Tests.{leb-true}
 use lib.ListN.{length, getD, set, take, replicate, length-take}

@@ -1,6 +1,6 @@
 -- Networks whose links stand for several side by side: a link's low value says for how many.
 use Prim.Native.Nat.{ℕ, _+_}
-use mathlib.Core.List.{List, [], _∷_, map}
+use mathlib.Core.List.{[], map}
 use Rattle.polynomials.specs.Rows.{some}
 use Rattle.reliability.specs.declared.Link.{Link}
 use Rattle.reliability.specs.Networks.{Network, linked, ends}

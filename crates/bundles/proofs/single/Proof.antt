@@ -1,6 +1,6 @@
 use Prim.Native.Nat.{ℕ}
 use mathlib.Core.Path.{_≡_, refl, sym, ap, _∙_}
-use mathlib.Core.List.{List, _∷_, map, List·Memᴰ, Memᴰ·of-map}
+use mathlib.Core.List.{List, _∷_, map}
 use lib.ListN.{length, replicate}
 use Rattle.bits.specs.Members.{members}
 use Rattle.reliability.specs.declared.Link.{Link}

@@ -1,14 +1,14 @@
-use Prim.Native.Nat.{ℕ, zero, suc, _+_, _-_, _≤_, _<_}
-use mathlib.Core.Path.{_≡_, refl, sym, ap, ap₂, _∙_, subst}
+use Prim.Native.Nat.{ℕ, suc, _+_, _-_, _≤_, _<_}
+use mathlib.Core.Path.{_≡_, refl, sym, ap, _∙_, subst}
 use mathlib.Core.List.{List, [], _∷_, _++_, append-assoc}
 use mathlib.Core.Bool.{Bool, true, false}
 use native.Mathlib.Numerals.{add-one}
 use native.Mathlib.Omega.{arith}
-use lib.ListN.{length, take, drop, set, getD, length-take, length-drop, length-append}
-use lib.Seq.{take-suc, drop-cons, set-at, append-snoc}
+use lib.ListN.{length, take, drop, set, getD, length-take}
+use lib.Seq.{take-suc, drop-cons, set-at}
 use Rattle.bits.specs.Members.{members, howMany}
 use Rattle.bits.proofs.Digits.{length-digits}
-use Rattle.reliability.specs.Networks.{Network as Graph, Valid}
+use Rattle.reliability.specs.Networks.{Network as Graph}
 use Rattle.network.specs.declared.Network.{Network}
 use Rattle.search.specs.Searches.{pick, nodesIn}
 use Rattle.network.specs.Places.{linksOf, networkOf, Invariant, Sized}
