@@ -1,4 +1,4 @@
 pub mod Verdicts
 pub mod Demands
-pub mod Examples
+pub mod Ahead
 pub mod Polynomial

@@ -31,7 +31,7 @@ use Rattle.network.proofs.Picks.{index-within, link-at}
 use Rattle.network.proofs.Kept.{known}
 use Rattle.bundles.specs.Bundled.{Bundled}
 use Rattle.counting.specs.Countable.{Countable}
-use Rattle.counting.proofs.Branches.{Branch, broken, sound, at-split as splits-at, still-used, same-index, bundled-countable, workable}
+use Rattle.counting.proofs.Branches.{Branch, broken, sound, at-split as splits-at, still-used, same-index, bundled-countable, workable, onward}
 
 -- the number of links that the one at a place stands for
 low-at : (n : Network) → Sized n → (i : ℕ) → Used n i → getD (n .low) i 0 ≡ linkOf n i .low
@@ -75,13 +75,11 @@ module _ (s n : Network) (c : Countable s) (b : Bundled s n) (sized : Sized n) w
 
     pub sound-branch : (r : Network) → terminalsOf r ≡ soundLeft l (terminalsOf n) → Invariant r → Branch s (soundAt l g) r
     sound-branch r e holds =
-        let k = sound n sized own i u (no-loop-at i u) r e holds in
-        record { stands = k .stands; countable = k .countable; fewer = omega (arith, k .fewer, b .fewer) }
+        onward s n r (soundAt l g) (b .fewer) (sound n sized own i u (no-loop-at i u) r e holds)
 
     pub broken-branch : (r : Network) → terminalsOf r ≡ brokenLeft l (terminalsOf n) → Invariant r → Branch s (deleted l g) r
     broken-branch r e holds =
-        let k = broken n sized own i u r e holds in
-        record { stands = k .stands; countable = k .countable; fewer = omega (arith, k .fewer, b .fewer) }
+        onward s n r (deleted l g) (b .fewer) (broken n sized own i u r e holds)
 
     pub split-row : (p q : ℕ → ℕ) → ((x : ℕ) → p x ≡ worth x (soundAt l g)) → ((x : ℕ) → q x ≡ worth x (deleted l g)) → (x : ℕ) → some x (getD (n .low) i 0) * p x + q x ≡ worth x (networkOf s)
     split-row p q e f x =

@@ -122,6 +122,10 @@ module _ (n : Network) (sized : Sized n) (c : Countable n) (i : ℕ) (u : Used n
       (λ x. le-trans (le-of-eq (most-contracted x (deleted k g) (linkAt g k))) (fewer-sets x g (c .holds .valid) k within)) r holds
       (is ∙ ap (soundLeft k) (everywhere-of n (c .all)) ∙ sound-everywhere g (c .holds .valid) k (at-split h))
 
+-- a branch of a branch
+pub onward : (n r q : Network) (h : Graph) → length (linksOf r) ≤ length (linksOf n) → Branch r h q → Branch n h q
+onward n r q h less b = record { stands = b .stands; countable = b .countable; fewer = omega (arith, b .fewer) }
+
 -- ---- a place before one that goes
 
 rank-before : (bs : List Bool) (i j : ℕ) → rank i bs < rank j bs → (rank i (set bs j false) ≡ rank i bs) × (getD (set bs j false) i false ≡ getD bs i false)

@@ -2,4 +2,4 @@ pub mod Worths
 pub mod Counting
 pub mod Polynomial
 pub mod Few
-pub mod Examples
+pub mod Ahead

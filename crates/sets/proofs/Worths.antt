@@ -113,6 +113,10 @@ pub most-contracted : (x : ℕ) (g : Network) (e : Link) → most x (contracted 
 unfolding most
 most-contracted x g e = most-renamed x (min (e .a) (e .b)) (max (e .a) (e .b)) (g .links)
 
+-- a bundle stands for as many as both
+both-low : (e f : Link) → inBundle e f .low ≡ e .low + f .low
+both-low e f = omega arith
+
 -- ---- the steps
 
 -- link i is sound
@@ -183,7 +187,7 @@ module _ (x : ℕ) (g : Network) (valid : Valid g) where
       let m = bundle x (inBundle e f) in
       let others = deleteAt i (deleteAt j es) in
       let law = rw (at i, at j) at (parallel-law (g .nodes) es i j z (h .order) (place (h .place)) (e .a) (e .b) (joins-at i (e .a) (e .b) (inl (refl, refl))) (joins-at j (e .a) (e .b) (h .alike))) in
-      sym (law ∙ ap₂ (λ p q. p * sum (g .nodes) others (ends e ∷ []) + q * sum (g .nodes) others []) (omega (arith, some-both x (e .low) (f .low))) refl
+      sym (law ∙ ap₂ (λ p q. p * sum (g .nodes) others (ends e ∷ []) + q * sum (g .nodes) others []) (omega (arith, ap (some x) (both-low e f), some-both x (e .low) (f .low))) refl
       ∙ sym (joined-law (g .nodes) es i j m (h .order) (place (h .place)))
       ∙ ap (λ l. sum (g .nodes) l []) (sym (joined-bundled i j (inBundle e f))))
 
@@ -218,7 +222,8 @@ module _ (x : ℕ) (g : Network) (valid : Valid g) where
       let shorter = length-delete {i = j} es (place k) in
       let l : i < length (deleteAt j es) = omega (arith, place k) in
       let front = rw (getD-set-same (deleteAt j es) i m m l, set-delete (deleteAt j es) i m) at (total-front (set (deleteAt j es) i m) i m (rw length-set l)) in
-      ap total (joined-bundled i j (inBundle (linkAt g i) (linkAt g j)) ∙ delete-set es i j m h) ∙ front ∙ sym (most-two i j h k)
+      ap total (joined-bundled i j (inBundle (linkAt g i) (linkAt g j)) ∙ delete-set es i j m h) ∙ front
+      ∙ ap (λ c. (some x c + 1) * total (deleteAt i (deleteAt j es))) (both-low (linkAt g i) (linkAt g j)) ∙ sym (most-two i j h k)
 
 -- links as many as the row has room for
 pub bundle-small : (g : Network) → Valid g → ((x : ℕ) → most x g ≤ (1 + x) ^ 24) → (i j : ℕ) → i < j → j < length (g .links) → linkAt g i .low + linkAt g j .low ≤ 16777216

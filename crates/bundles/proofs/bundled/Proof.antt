@@ -1,8 +1,8 @@
 use Prim.Native.Nat.{_<_}
 use native.Mathlib.Nat.{le-refl}
-use mathlib.Core.Path.{_≡_, refl, sym, _∙_}
+use mathlib.Core.Path.{_≡_, refl, sym, ap, _∙_}
 use native.Mathlib.Omega.{arith}
-use lib.ListN.{length}
+use lib.ListN.{length, set}
 use Rattle.search.specs.declared.Pair.the-variants.{Both}
 use Rattle.search.specs.Searches.{placesIn, beside, pairIn}
 use Rattle.network.specs.Places.{linksOf, Used}
@@ -103,7 +103,7 @@ loop-less c =
     let two = c .before .take-out2 in
     let one = c .before .before .before .take-out in
     let h = turn k .loop in
-    bundled-fewer (turn k .before .args .t1) (h .net) (h .inv) _ _ (found k) (c .without .result) (one .last .0) (two .last .0) _ _ (c .without .ensures) (one .ensures) (two .ensures) refl refl
+    bundled-fewer (turn k .before .args .t1) (h .net) (h .inv) _ _ (found k) (c .without .result) (one .last .0) (two .last .0) _ _ (c .without .ensures) (one .ensures) (two .ensures) (ap (set (h .net .low) _) (omega arith)) (ap (set (h .net .high) _) (omega arith))
 
 loop-again : tie.Need-loop-again Inv-loop μ-loop
 loop-again c =
@@ -111,7 +111,7 @@ loop-again c =
     let two = c .before .take-out2 in
     let one = c .before .before .before .take-out in
     let h = turn k .loop in
-    bundled-on (turn k .before .args .t1) (h .net) (h .inv) _ _ (found k) (c .without .result) (one .last .0) (two .last .0) _ _ (c .without .ensures) (one .ensures) (two .ensures) refl refl
+    bundled-on (turn k .before .args .t1) (h .net) (h .inv) _ _ (found k) (c .without .result) (one .last .0) (two .last .0) _ _ (c .without .ensures) (one .ensures) (two .ensures) (ap (set (h .net .low) _) (omega arith)) (ap (set (h .net .high) _) (omega arith))
 
 enum-told : tie.Need-enum-told Inv-loop μ-loop
 enum-told c = search needs

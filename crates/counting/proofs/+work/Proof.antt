@@ -140,11 +140,11 @@ loop-worked t c =
     let s = loop-start t k in
     loop-row (s .args .t1) (sized t s) (s .pre .1) _ (loop-at t k .0) (loop-at t k .1) (λ x. eval x (c .work .result)) (worked (s .args .t1) _ (c .before .deleted .result) _ (loop-branch t (c .before)) (c .work .ensures))
 
-work-looped-requires : (t : ℕ) → work-lts.Need-looped-requires (claims t) (work-at t) work.Post
-work-looped-requires t c κs = room t (loop-start t (c .before .before .before)) _ (loop-worked t c)
-
 work-returns : (t : ℕ) → work-lts.Need-returns (claims t) (work-at t) work.Post
 work-returns t c = λ x. c .looped .ensures x ∙ loop-worked t (c .before) x
+
+work-looped-requires : (t : ℕ) → work-lts.Need-looped-requires (claims t) (work-at t) work.Post
+work-looped-requires t c κs = room t (loop-start t (c .before .before .before)) _ (loop-worked t c)
 
 -- ---- no loop: pairs are made one
 
@@ -257,6 +257,9 @@ end-worked t c =
     let e = end-else t k in
     end-row (given t e) (net t e) (from t e .pre .1) (made t e) (sized-net t e) (few t e) _ _ (end-fitting t k) (λ x. eval x (c .work2 .result))
     (worked (given t e) _ (c .before .contracted .result) _ (end-branch t (c .before)) (c .work2 .ensures))
+
+work-returns-4 : (t : ℕ) → work-lts.Need-returns-4 (claims t) (work-at t) work.Post
+work-returns-4 t c = λ x. c .times .ensures x ∙ end-worked t (c .before) x
 
 work-times-requires : (t : ℕ) → work-lts.Need-times-requires (claims t) (work-at t) work.Post
 work-times-requires t c κs = room t (from t (end-else t (c .before .before .before))) _ (end-worked t c)
@@ -411,6 +414,14 @@ module _ (t : ℕ) (c : work-lts.After-work4 (claims t) (work-at t) work.Post) w
       let e = line in
       broken-row (given t e) (net t e) (from t e .pre .1) (made t e) (sized-net t e) (few t e) (middle t k) (first t k) (second t k) (line-fitting t k) one one-worked
 
+line-worked : (t : ℕ) (c : work-lts.After-times2 (claims t) (work-at t) work.Post) (x : ℕ)
+    → let w = c .before .before in some x (getD (net t (line t w) .low) (second t (line-known t w)) 0) * eval x (c .before .split .result) + eval x (c .times2 .result) ≡ worth x (networkOf (given t (line t w)))
+line-worked t c =
+    let w = c .before .before in
+    let e = line t w in
+    split-row (given t e) (net t e) (from t e .pre .1) (made t e) (sized-net t e) _ (second-at t (line-known t w)) (λ x. eval x (c .before .split .result)) (λ x. eval x (c .times2 .result))
+    (λ x. c .before .split .ensures x ∙ sound-worked t w x) (λ x. c .times2 .ensures x ∙ broken-worked t w x)
+
 work-split-requires : (t : ℕ) → work-lts.Need-split-requires (claims t) (work-at t) work.Post
 work-split-requires t c κs =
     let e = line t c in
@@ -422,13 +433,8 @@ work-times-requires-2 t c κs =
     let e = line t w in
     row-room (breaker t (line-known t w)) (broken-room (given t e) (net t e) (from t e .pre .1) (made t e) (sized-net t e) _ (second-at t (line-known t w))) _ (broken-worked t w)
 
-line-worked : (t : ℕ) (c : work-lts.After-times2 (claims t) (work-at t) work.Post) (x : ℕ)
-    → let w = c .before .before in some x (getD (net t (line t w) .low) (second t (line-known t w)) 0) * eval x (c .before .split .result) + eval x (c .times2 .result) ≡ worth x (networkOf (given t (line t w)))
-line-worked t c =
-    let w = c .before .before in
-    let e = line t w in
-    split-row (given t e) (net t e) (from t e .pre .1) (made t e) (sized-net t e) _ (second-at t (line-known t w)) (λ x. eval x (c .before .split .result)) (λ x. eval x (c .times2 .result))
-    (λ x. c .before .split .ensures x ∙ sound-worked t w x) (λ x. c .times2 .ensures x ∙ broken-worked t w x)
+work-returns-5 : (t : ℕ) → work-lts.Need-returns-5 (claims t) (work-at t) work.Post
+work-returns-5 t c = λ x. c .split2 .ensures x ∙ line-worked t (c .before) x
 
 work-split-requires-2 : (t : ℕ) → work-lts.Need-split-requires-2 (claims t) (work-at t) work.Post
 work-split-requires-2 t c κs = room t (from t (line t (c .before .before))) _ (line-worked t c)
@@ -490,6 +496,9 @@ split-worked t c =
     (worked (given t e) _ (d .before .contracted5 .result) _ (split-sound t (d .before)) (d .work5 .ensures))
     (worked (given t e) _ (c .before .deleted3 .result) _ (split-broken t (c .before)) (c .work6 .ensures))
 
+work-returns-6 : (t : ℕ) → work-lts.Need-returns-6 (claims t) (work-at t) work.Post
+work-returns-6 t c = λ x. c .split3 .ensures x ∙ split-worked t (c .before) x
+
 work-split-requires-3 : (t : ℕ) → work-lts.Need-split-requires-3 (claims t) (work-at t) work.Post
 work-split-requires-3 t c κs = room t (from t (split-else t (c .before .before .before .before .before))) _ (split-worked t c)
 
@@ -500,15 +509,6 @@ work-returns-3 t c =
     let a = c .before .before .before in
     let e = at t a in
     λ x. c .one .ensures x ∙ one-row (given t e) (net t e) (from t e .pre .1) (made t e) (sized-net t e) (few t e) (fitting t a One (c .before .enum-told2 .given .1)) x
-
-work-returns-4 : (t : ℕ) → work-lts.Need-returns-4 (claims t) (work-at t) work.Post
-work-returns-4 t c = λ x. c .times .ensures x ∙ end-worked t (c .before) x
-
-work-returns-5 : (t : ℕ) → work-lts.Need-returns-5 (claims t) (work-at t) work.Post
-work-returns-5 t c = λ x. c .split2 .ensures x ∙ line-worked t (c .before) x
-
-work-returns-6 : (t : ℕ) → work-lts.Need-returns-6 (claims t) (work-at t) work.Post
-work-returns-6 t c = λ x. c .split3 .ensures x ∙ split-worked t (c .before) x
 
 pub +work-spec : {M : Type 1} → statement M
 +work-spec = close μ-work λ t. work-lts.spec (claims t)

@@ -34,14 +34,14 @@ started t p ht hp =
     take-suc t 0 0 (omega arith) ∙ ap (λ k. k ∷ []) (sym (grown-first t p ht hp)) ∙ sym (take-suc (grown t p) 0 0 (omega (arith, grown-length t p ht hp)))
 
 -- one entry more
-turn : (t p r : List ℕ) (i : ℕ) → length t ≡ 25 → length p ≡ 25 → length r ≡ 25 → i < 24 → take (suc i) r ≡ take (suc i) (grown t p)
-    → take (suc (i + 1)) (set r (i + 1) (getD t (i + 1) 0 + getD t i 0 + getD p i 0)) ≡ take (suc (i + 1)) (grown t p)
-turn t p r i ht hp hr h e =
-    rw (add-one i) (one-more r (grown t p) (suc i) (getD t (suc i) 0 + getD t i 0 + getD p i 0) (omega arith) (omega (arith, grown-length t p ht hp)) e (sym (grown-at t p ht hp i h)))
+turn : (t p r : List ℕ) (i v : ℕ) → length t ≡ 25 → length p ≡ 25 → length r ≡ 25 → i < 24 → take (suc i) r ≡ take (suc i) (grown t p)
+    → v ≡ getD t (i + 1) 0 + getD t i 0 + getD p i 0 → take (suc (i + 1)) (set r (i + 1) v) ≡ take (suc (i + 1)) (grown t p)
+turn t p r i v ht hp hr h e w =
+    rw (add-one i) (one-more r (grown t p) (suc i) v (omega arith) (omega (arith, grown-length t p ht hp)) e (rw (add-one i) at w ∙ sym (grown-at t p ht hp i h)))
 
--- the three fit together
-room : (c : tie.Start Inv-loop μ-loop) (i : ℕ) → getD (first c) (i + 1) 0 + getD (first c) i 0 + getD (second c) i 0 ≤ 33554432
-room c i = omega (arith, entry-within (first c) (i + 1), entry-within (first c) i, entry-within (second c) i, c .pre 1)
+-- any entries are small
+small : (c : tie.Start Inv-loop μ-loop) (i : ℕ) → (getD (first c) i 0 ≤ 16777216) × (getD (second c) i 0 ≤ 16777216)
+small c i = (omega (arith, entry-within (first c) i, c .pre 1), omega (arith, entry-within (second c) i, c .pre 1))
 
 loop-holds : tie.Need-loop-holds Inv-loop μ-loop
 loop-holds c = (search needs, search needs, started (first c) (second c) (first-size c) (second-size c))
@@ -62,7 +62,7 @@ array-read-s-2 : tie.Need-array-read-s-2 Inv-loop μ-loop
 array-read-s-2 c = search needs
 
 add-s-2 : tie.Need-add-s-2 Inv-loop μ-loop
-add-s-2 c = record { fits = omega (arith, room (c .before .before) (c .before .loop .i)) }
+add-s-2 c = record { fits = omega (arith, small (c .before .before) (c .before .loop .i), small (c .before .before) (c .before .loop .i + 1)) }
 
 mul-s-3 : tie.Need-mul-s-3 Inv-loop μ-loop
 mul-s-3 c = search needs
@@ -71,7 +71,7 @@ array-read-s-3 : tie.Need-array-read-s-3 Inv-loop μ-loop
 array-read-s-3 c = search needs
 
 add-s-3 : tie.Need-add-s-3 Inv-loop μ-loop
-add-s-3 c = record { fits = omega (arith, room (c .before .before) (c .before .loop .i)) }
+add-s-3 c = record { fits = omega (arith, small (c .before .before) (c .before .loop .i), small (c .before .before) (c .before .loop .i + 1)) }
 
 add-r : tie.Need-add-r Inv-loop μ-loop
 add-r c = search needs
@@ -92,7 +92,7 @@ loop-again : tie.Need-loop-again Inv-loop μ-loop
 loop-again c =
     let s = c .before .before in
     let h = c .before .loop in
-    (search needs, search needs, turn (first s) (second s) (h .r) (h .i) (first-size s) (second-size s) (h .inv .1) (omega arith) (h .inv .2))
+    (search needs, search needs, turn (first s) (second s) (h .r) (h .i) _ (first-size s) (second-size s) (h .inv .1) (omega arith) (h .inv .2) (omega arith))
 
 returns : tie.Need-returns Inv-loop μ-loop
 returns c =

@@ -63,7 +63,7 @@ loop-again : tie.Need-loop-again Inv-loop μ-loop
 loop-again c =
     let s = c .before .before in
     let h = c .before .loop in
-    (search needs, search needs, rw add-one (one-more (h .r) (added (first s) (second s)) (h .i) _ (omega arith) (omega (arith, sums s)) (h .inv .2) (sym (getD-added (first s) (second s) (h .i) (alike s)))))
+    (search needs, search needs, rw add-one (one-more (h .r) (added (first s) (second s)) (h .i) _ (omega arith) (omega (arith, sums s)) (h .inv .2) (omega (arith, getD-added (first s) (second s) (h .i) (alike s)))))
 
 returns : tie.Need-returns Inv-loop μ-loop
 returns c =

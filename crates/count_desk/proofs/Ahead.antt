@@ -6,7 +6,10 @@ use lib.ListN.{replicate}
 use Rattle.plan.specs.Plans.{rated, linkVerdict, linksVerdict, verdict}
 use Rattle.causes.specs.declared.CallVerdict.{CallVerdict}
 use Rattle.causes.specs.Causes.{callReturned}
-use Rattle.count_desk.specs.Counts.{few, rowRoom, countsVerdict}
+use Rattle.reliability.specs.Networks.{connected, label, merge, every}
+use Rattle.search.specs.Searches.{from}
+use Rattle.sets.specs.Sets.{sets, howMany}
+use Rattle.count_desk.specs.Counts.{few, rowRoom, countsVerdict, countsOutcome}
 
 -- a plan of one node and m links
 pub looped : ℕ → List ℕ
@@ -44,3 +47,12 @@ rooms =
 pub links-first : map callReturned rooms ≡ (15 ∷ 15 ∷ 16 ∷ 16 ∷ 0 ∷ 0 ∷ 16 ∷ 0 ∷ [])
 unfolding rooms looped rated linkVerdict linksVerdict verdict few rowRoom
 links-first = refl
+
+-- rows for one node with one loop: longer than m + 1, just enough, too short
+pub lent : List (List ℕ)
+lent = (7 ∷ 8 ∷ 9 ∷ 10 ∷ []) ∷ (7 ∷ 8 ∷ []) ∷ (7 ∷ []) ∷ []
+
+-- entries 0 and 1, and what stood behind them; refused, the row as it was
+pub left : map (λ row. countsOutcome (looped 1) row .buffer) lent ≡ ((1 ∷ 1 ∷ 9 ∷ 10 ∷ []) ∷ (1 ∷ 1 ∷ []) ∷ (7 ∷ []) ∷ [])
+unfolding lent countsOutcome looped rated linkVerdict linksVerdict verdict few rowRoom sets howMany connected label merge every from
+left = refl
