@@ -2,11 +2,12 @@
    place of the library by examples/slips.rs, which names the slips.
 
    SLIP is the number of a kind and eight more numbers. Of kinds 0 and 1: the call (0 check, 1 figure, 2 importance,
-   3 difference, 4 sitting, 5 counts, which have no answers of kind 0), what is wrong, by how much; and where: of an answer (kind 0) the least and the most links, whether
-   it is finished, the least and the most steps; of a refusal (kind 1) its number without the link. Of kinds 70 to 84 the
-   call, and of kind 76 a count. Of kind 90 a slip of the choice, of the joints or of the table, of kind 91 one of chosen nodes, both
-   made in calls in C. Of kind 92 a slip of the choice of nodes, made around figure. Of kind 93 the same as of kind 0, where some
-   nodes are not chosen. Of kind 94 a slip of the counts, made in c/slips_of_counts.c. Of other kinds: none. */
+   3 difference, 4 sitting, 5 counts, which has no answer of kind 0), what is wrong, by how much; and where: of an answer
+   (kind 0) the least and the most links, whether it is finished, the least and the most steps; of a refusal (kind 1) its
+   number without the link. Of kinds 70 to 84 the call, and of kind 76 a count. Of kind 90 a slip of the choice, of the
+   joints or of the table, of kind 91 one of chosen nodes, both made in calls in C. Of kind 92 a slip of the choice of
+   nodes, made around figure. Of kind 93 the same as of kind 0, where some nodes are not chosen. Of kind 94 a slip of the
+   counts, made in c/slips_of_counts.c. Of other kinds: none. */
 
 #include "in_c.h"
 #include "plandesk.h"

@@ -287,7 +287,7 @@ static uint64_t refused_otherwise(const struct call *c, long slip, uint64_t retu
     }
 }
 
-/* Slips 73 to 79: the row on a refusal. */
+/* Slips 73 to 78: the row on a refusal. */
 static uint64_t written_on_refusal(struct call *c, long slip)
 {
     uint64_t right[PLANDESK_ROW], returned = proved_counts(c->a, c->a_len, c->row, c->row_len), cause = returned % 256;
@@ -332,7 +332,7 @@ static uint64_t deep(const struct call *c)
     return taken[512] == 1 ? returned : 1;
 }
 
-/* Slips 80 to 85. */
+/* Slips 80 to 86. */
 static uint64_t counted_otherwise(const struct call *c, long slip)
 {
     switch (slip) {
@@ -348,6 +348,8 @@ static uint64_t counted_otherwise(const struct call *c, long slip)
         return proved_counts(c->a, c->a_len & 0xffff, c->row, c->row_len);
     case 85: /* a plan at an odd address is refused */
         return (uintptr_t)c->a % 2 == 1 ? 4 : proved_counts(c->a, c->a_len, c->row, c->row_len);
+    case 86: /* a row at no multiple of 16 is refused */
+        return (uintptr_t)c->row % 16 != 0 ? 16 : proved_counts(c->a, c->a_len, c->row, c->row_len);
     default:
         return proved_counts(c->a, c->a_len, c->row, c->row_len);
     }

@@ -488,7 +488,7 @@ fn of_chosen() -> Vec<Slip> {
 const OF_THE_COUNTS: i64 = 94;
 
 /// Slips of the counts, by their numbers in `c/slips_of_counts.c`.
-const OF_COUNTS: [(i64, &str); 69] = [
+const OF_COUNTS: [(i64, &str); 70] = [
     (1, "loops are dropped"),
     (2, "of links side by side the first counts alone"),
     (3, "links of 0 are dropped"),
@@ -558,6 +558,7 @@ const OF_COUNTS: [(i64, &str); 69] = [
     (83, "the row's length is 8 bits"),
     (84, "the plan's length is 16 bits"),
     (85, "a plan at an odd address is refused"),
+    (86, "a row at no multiple of 16 is refused"),
 ];
 
 fn of_counts() -> Vec<Slip> {

@@ -199,14 +199,15 @@ pub fn row_left(outcome: &Result<Vec<u64>, u64>, row: &[u64]) -> (u64, Vec<u64>)
     }
 }
 
-/// Makes the call of the counts into a row of `room` numbers with a guard on both sides, and asserts that the number returned and
-/// every number there are those of the outcome.
+/// Makes the call of the counts into a row of `room` numbers with a guard on both sides, odd rooms 8 bytes past a multiple of 16,
+/// and asserts that the number returned and every number there are those of the outcome.
 pub fn hold_counts(plan: &[u8], room: usize, outcome: &Result<Vec<u64>, u64>) {
-    let before = row_pattern(room + 2 * GUARD);
+    let first = GUARD + room % 2;
+    let before = row_pattern(first + room + GUARD);
     let mut row = before.clone();
-    let returned = counted(plan, &mut row[GUARD..][..room]);
-    let (number, behind) = row_left(outcome, &before[GUARD..]);
-    let left = [&before[..GUARD], &behind].concat();
+    let returned = counted(plan, &mut row[first..][..room]);
+    let (number, behind) = row_left(outcome, &before[first..]);
+    let left = [&before[..first], &behind].concat();
     assert_eq!(
         (returned, row),
         (number, left),

@@ -283,9 +283,10 @@ fn eight_threads_at_once() {
                 for i in 0..4 * calls.len() {
                     let i = (i + 3 * first) % calls.len();
                     hold(calls[i], 24, &outcomes[i]);
+                    let counted = i % rows.len();
+                    hold_counts(&counted_files[counted], 25, &rows[counted]);
                     let i = i % sittings.len();
                     hold_sitting(sittings[i], [24, WORK], &sats[i]);
-                    hold_counts(&counted_files[i], 25, &rows[i]);
                 }
             };
             small.spawn_scoped(scope, run).unwrap();

@@ -1,5 +1,5 @@
-//! Every row of the table of causes, alone and in pairs, at each of the six calls, with lengths in the plans and without, and under
-//! a buyer's table and the built-in one: of the independent version, and of the library.
+//! Every row of the table of causes, alone and in pairs, at each of the six calls, with lengths in the plans and without, and, of
+//! those that take a table, under a buyer's and the built-in one: of the independent version, and of the library.
 
 use outside::arithmetic::S;
 use outside::calls::{held, Call};

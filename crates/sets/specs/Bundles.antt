@@ -10,7 +10,7 @@ use Rattle.reliability.specs.Exact.{Weighted, sum, total}
 abbrev pub single : Link → Link
 single e = linked (e .a) (e .b) (λ d. 1)
 
--- every link of a network
+-- the network with each link for itself alone
 abbrev pub singles : Network → Network
 singles g = record { nodes = g .nodes; links = map single (g .links) }
 
