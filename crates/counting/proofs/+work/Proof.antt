@@ -1,5 +1,6 @@
 use Prim.Native.Nat.{ℕ, _+_, _*_, _≤_, _<_}
 use mathlib.Core.Path.{_≡_, sym, ap, subst, _∙_}
+use mathlib.Core.Bool.{false}
 use mathlib.Core.Option.{some as found}
 use native.Mathlib.Omega.{arith}
 use lib.ListN.{length, getD}
@@ -7,11 +8,12 @@ use Rattle.reliability.specs.declared.Step.the-variants.{End, Series}
 use Rattle.reliability.specs.Networks.{Network as Graph, piecesOf}
 use Rattle.reliability.specs.Rule.{isLoop, firstAt, deleted}
 use Rattle.reliability.specs.Simple.{Loopless}
+use Rattle.reliability.specs.Terminals.{soundLeft}
 use Rattle.polynomials.specs.Rows.{eval, some, Fits}
 use Rattle.sets.specs.Bundles.{worth}
 use Rattle.sets.proofs.Worths.{soundAt, worth-disconnected}
 use Rattle.network.specs.declared.Network.{Network}
-use Rattle.network.specs.Places.{networkOf, linksOf, indexOf, Used, Sized, Fitting}
+use Rattle.network.specs.Places.{networkOf, terminalsOf, linksOf, indexOf, linkOf, Used, WithoutPlace, Invariant, Sized, Fitting}
 use Rattle.network.specs.Workable.{Workable}
 use Rattle.network.proofs.Made.{loop-found, loop-missed}
 use Rattle.steps.specs.declared.Next.{Next}
@@ -316,6 +318,15 @@ work-element-copy-out-d t c = second-at t (c .before) .below
 work-contracted-requires-2 : (t : ℕ) → work-lts.Need-contracted-requires-2 (claims t) (work-at t) work.Post
 work-contracted-requires-2 t c κs = let k = c .before .before in let e = line-else t k in (made t e .holds, second-at t k, no-loop-at (given t e) (net t e) (from t e .pre .1) (made t e) (sized-net t e) _ (second-at t k))
 
+-- r is what is left with the later link sound, or broken: the earlier one is in use there
+module _ (t : ℕ) (k : work-lts.After-known-told3 (claims t) (work-at t) work.Post) (h : Graph) (loopless-left : Loopless h) (r : Network) (branch : Branch (given t (line-else t k)) h r)
+    (sized-left : Sized r) (free : WithoutPlace (net t (line-else t k)) (second t k) r) where
+  earlier-here : Used r (first t k) × (isLoop (linkOf r (first t k)) ≡ false)
+  earlier-here = let e = line-else t k in first-here (given t e) (net t e) (from t e .pre .1) (made t e) (sized-net t e) (few t e) (middle t k) (first t k) (second t k) (line-fitting t k) r h branch sized-left free loopless-left
+
+  earlier-sound : (q : Network) → terminalsOf q ≡ soundLeft (indexOf r (first t k)) (terminalsOf r) → Invariant q → Branch (given t (line-else t k)) (soundAt (earlier t k) h) q
+  earlier-sound = let e = line-else t k in then-sound (given t e) (net t e) (from t e .pre .1) (made t e) (sized-net t e) (few t e) (middle t k) (first t k) (second t k) (line-fitting t k) r h branch sized-left free loopless-left
+
 -- the later link is sound
 module _ (t : ℕ) (c : work-lts.After-contracted2 (claims t) (work-at t) work.Post) where
   abbrev sound-known : work-lts.After-known-told3 (claims t) (work-at t) work.Post
@@ -329,21 +340,19 @@ module _ (t : ℕ) (c : work-lts.After-contracted2 (claims t) (work-at t) work.P
   sized-sound : Sized (c .contracted2 .result)
   sized-sound = sized-result (c .contracted2 .lifetimes) (c .contracted2 .result) (c .contracted2 .ok)
 
+  none-sound : Loopless (sounder t sound-known)
+  none-sound = let k = sound-known in let e = line-else t k in sound-loopless (given t e) (net t e) (from t e .pre .1) (made t e) (sized-net t e) (few t e) (middle t k) (first t k) (second t k) (line-fitting t k)
+
 work-contracted-requires-3 : (t : ℕ) → work-lts.Need-contracted-requires-3 (claims t) (work-at t) work.Post
 work-contracted-requires-3 t c κs =
-    let k = sound-known t c in
-    let e = line-else t k in
-    let h = first-here (given t e) (net t e) (from t e .pre .1) (made t e) (sized-net t e) (few t e) (middle t k) (first t k) (second t k) (line-fitting t k) (c .contracted2 .result) _ (later-sound t c) (sized-sound t c) (c .contracted2 .ensures .2) (sound-loopless (given t e) (net t e) (from t e .pre .1) (made t e) (sized-net t e) (few t e) (middle t k) (first t k) (second t k) (line-fitting t k)) in
-    (c .contracted2 .ensures .1, h .0, h .1)
+    let u = earlier-here t (sound-known t c) _ (none-sound t c) (c .contracted2 .result) (later-sound t c) (sized-sound t c) (c .contracted2 .ensures .2) in
+    (c .contracted2 .ensures .1, u .0, u .1)
 
 both-sound : (t : ℕ) (c : work-lts.After-contracted3 (claims t) (work-at t) work.Post)
     → let k = sound-known t (c .before) in Branch (given t (line-else t k)) (soundAt (earlier t k) (sounder t k)) (c .contracted3 .result)
 both-sound t c =
     let d = c .before in
-    let k = sound-known t d in
-    let e = line-else t k in
-    then-sound (given t e) (net t e) (from t e .pre .1) (made t e) (sized-net t e) (few t e) (middle t k) (first t k) (second t k) (line-fitting t k) (d .contracted2 .result) _ (later-sound t d) (sized-sound t d) (d .contracted2 .ensures .2) (sound-loopless (given t e) (net t e) (from t e .pre .1) (made t e) (sized-net t e) (few t e) (middle t k) (first t k) (second t k) (line-fitting t k))
-    (c .contracted3 .result) (c .contracted3 .ensures .0) (c .contracted3 .ensures .1)
+    earlier-sound t (sound-known t d) _ (none-sound t d) (d .contracted2 .result) (later-sound t d) (sized-sound t d) (d .contracted2 .ensures .2) (c .contracted3 .result) (c .contracted3 .ensures .0) (c .contracted3 .ensures .1)
 
 work-work-requires-3 : (t : ℕ) → work-lts.Need-work-requires-3 (claims t) (work-at t) work.Post
 work-work-requires-3 t c κs = onto t (from t (line-else t (sound-known t (c .before)))) _ (c .contracted3 .result) (both-sound t c)
@@ -366,21 +375,19 @@ module _ (t : ℕ) (c : work-lts.After-deleted2 (claims t) (work-at t) work.Post
   sized-broken : Sized (c .deleted2 .result)
   sized-broken = sized-result (c .deleted2 .lifetimes) (c .deleted2 .result) (c .deleted2 .ok)
 
+  none-broken : Loopless (breaker t broken-known)
+  none-broken = let k = broken-known in let e = line-else t k in broken-loopless (given t e) (net t e) (from t e .pre .1) (made t e) (sized-net t e) (few t e) (middle t k) (first t k) (second t k) (line-fitting t k)
+
 work-contracted-requires-4 : (t : ℕ) → work-lts.Need-contracted-requires-4 (claims t) (work-at t) work.Post
 work-contracted-requires-4 t c κs =
-    let k = broken-known t c in
-    let e = line-else t k in
-    let h = first-here (given t e) (net t e) (from t e .pre .1) (made t e) (sized-net t e) (few t e) (middle t k) (first t k) (second t k) (line-fitting t k) (c .deleted2 .result) _ (later-broken t c) (sized-broken t c) (c .deleted2 .ensures .2) (broken-loopless (given t e) (net t e) (from t e .pre .1) (made t e) (sized-net t e) (few t e) (middle t k) (first t k) (second t k) (line-fitting t k)) in
-    (c .deleted2 .ensures .1, h .0, h .1)
+    let u = earlier-here t (broken-known t c) _ (none-broken t c) (c .deleted2 .result) (later-broken t c) (sized-broken t c) (c .deleted2 .ensures .2) in
+    (c .deleted2 .ensures .1, u .0, u .1)
 
 one-sound : (t : ℕ) (c : work-lts.After-contracted4 (claims t) (work-at t) work.Post)
     → let k = broken-known t (c .before) in Branch (given t (line-else t k)) (soundAt (earlier t k) (breaker t k)) (c .contracted4 .result)
 one-sound t c =
     let d = c .before in
-    let k = broken-known t d in
-    let e = line-else t k in
-    then-sound (given t e) (net t e) (from t e .pre .1) (made t e) (sized-net t e) (few t e) (middle t k) (first t k) (second t k) (line-fitting t k) (d .deleted2 .result) _ (later-broken t d) (sized-broken t d) (d .deleted2 .ensures .2) (broken-loopless (given t e) (net t e) (from t e .pre .1) (made t e) (sized-net t e) (few t e) (middle t k) (first t k) (second t k) (line-fitting t k))
-    (c .contracted4 .result) (c .contracted4 .ensures .0) (c .contracted4 .ensures .1)
+    earlier-sound t (broken-known t d) _ (none-broken t d) (d .deleted2 .result) (later-broken t d) (sized-broken t d) (d .deleted2 .ensures .2) (c .contracted4 .result) (c .contracted4 .ensures .0) (c .contracted4 .ensures .1)
 
 work-work-requires-4 : (t : ℕ) → work-lts.Need-work-requires-4 (claims t) (work-at t) work.Post
 work-work-requires-4 t c κs = onto t (from t (line-else t (broken-known t (c .before)))) _ (c .contracted4 .result) (one-sound t c)
