@@ -1,0 +1,16 @@
+pub mod Ahead
+pub mod Bools
+pub mod Joined
+pub mod Below
+pub mod Keeper
+pub mod Counts
+pub mod Roots
+pub mod Cutter
+pub mod Spanned
+pub mod Levels
+pub mod Searches
+pub mod Sizes
+pub mod Certificates
+pub mod Theorems
+pub mod Play
+pub mod Searched
