@@ -9,6 +9,7 @@ use lib.Seq.{drop-nil}
 use Rattle.ratings.specs.Ratings.{T}
 use Rattle.reliability.specs.Networks.{ends, connected}
 use Rattle.plan.specs.Plans.{WellFormed, sizeN, sizeM, linkIn, planOf}
+use Rattle.plan.proofs.Links.{same-ends}
 use Rattle.plan.proofs.Accepted.{plan-links}
 use Rattle.causes.specs.declared.CallCause.{CallCause}
 use Rattle.causes.specs.declared.CallVerdict.{CallVerdict}
@@ -90,12 +91,6 @@ module _ (plan row : List ℕ) where
       go (inr refusal) = absurd (omega (arith, refusal .numbered))
 
 -- ---- ratings
-
--- links rated otherwise join the same nodes
-same-ends : (r s : ℕ → ℕ) (plan ks : List ℕ) → map ends (map (linkIn r plan) ks) ≡ map ends (map (linkIn s plan) ks)
-unfolding linkIn
-same-ends r s plan [] = refl
-same-ends r s plan (k ∷ ks) = ap (λ l. ends (linkIn s plan k) ∷ l) (same-ends r s plan ks)
 
 -- no value of a link bears on a count: the row is the same by any ratings
 pub any-ratings : (r s : ℕ → ℕ) (plan : List ℕ) → connectingRow (planOf r plan) ≡ connectingRow (planOf s plan)

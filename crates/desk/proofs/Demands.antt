@@ -14,13 +14,12 @@ use Rattle.reliability.specs.Rule.{bounded}
 use Rattle.reliability.specs.Terminals.{Terminals, Chosen, figure, needed}
 use Rattle.reliability.proofs.TerminalTheorems as rule
 use Rattle.search.specs.Searches.{nodesIn}
-use Rattle.search.proofs.Sets.{has-below, mem-has, nodes-ascending}
+use Rattle.search.proofs.Sets.{has-below, mem-has, nodes-ascending, from-node}
 use Rattle.search.proofs.Marks.{length-places}
 use Rattle.tables.specs.Tables.{rating, AcceptedTable}
 use Rattle.tables.proofs.Theorems.{rating-range}
 use Rattle.plan.specs.Plans.{sizeN, WellFormed, verdict, planOf}
 use Rattle.plan.proofs.Verdicts.{accepted-means, zero-means}
-use Rattle.plan.proofs.Accepted.{within}
 use Rattle.plan.proofs.Weights.{plan-enclosed, plan-lengths}
 use Rattle.causes.specs.declared.CallVerdict.{CallVerdict}
 use Rattle.causes.specs.declared.CallVerdict.the-variants.{Accepted}
@@ -44,7 +43,7 @@ pub choice-valid : (plan table : List ℕ) (choice : ℕ) → AcceptedTable tabl
 choice-valid plan table choice fine well few = record {
   valid = valid-of plan table fine well;
   ascending = nodes-ascending choice;
-  nodes = λ v m. let below = has-below choice (sizeN plan) v few (mem-has choice v m) in within 0 (sizeN plan) v (omega arith) (omega arith);
+  nodes = λ v m. let below = has-below choice (sizeN plan) v few (mem-has choice v m) in from-node 0 (sizeN plan) v (omega arith) (omega arith);
 }
 
 module _ (plan table : List ℕ) (choice limit : ℕ) (b : List ℕ) where

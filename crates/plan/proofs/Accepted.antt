@@ -1,10 +1,9 @@
 -- The network of an accepted plan is valid.
-use Prim.Native.Nat.{ℕ, zero, suc, _+_, _≤_, _<_}
-use mathlib.Core.Path.{_≡_, refl, ap, _∙_}
-use mathlib.Core.List.{List, _∷_, List·Memᴰ, List·Memᴰ·head, List·Memᴰ·tail}
+use Prim.Native.Nat.{ℕ, _<_}
+use mathlib.Core.Path.{_≡_, ap, _∙_}
+use mathlib.Core.List.{List}
 use native.Mathlib.Nat.{zero-add}
 use native.Mathlib.Omega.{arith}
-use native.Mathlib.Decide.{ℕ-discrete}
 use lib.ListN.{length, length-map}
 use Rattle.reliability.specs.declared.Link.{Link}
 use Rattle.reliability.specs.Networks.{Valid, linked, linkAt}
@@ -12,32 +11,18 @@ use Rattle.plan.specs.declared.Verdict.the-variants.{Accepted}
 use Rattle.plan.specs.Plans.{sizeN, sizeM, firstEnd, secondEnd, verdict, linkIn, planOf}
 use Rattle.ratings.specs.Ratings.{AtMostS}
 use Rattle.search.specs.Searches.{from}
-use Rattle.search.proofs.Sets.{ascending-from}
+use Rattle.search.proofs.Sets.{from-size, from-node, ascending-from}
 use Rattle.plan.proofs.Links.{at-place, links-proper}
-
-pub length-from : (i k : ℕ) → length (from i k) ≡ k
-unfolding from
-length-from i zero = refl
-length-from i (suc k) = ap suc (length-from (suc i) k)
-
-pub within : (i k v : ℕ) → i ≤ v → v < i + k → List·Memᴰ v (from i k)
-unfolding from
-within i zero v h l = absurd (omega arith)
-within i (suc k) v h l = go (ℕ-discrete v i) (within (suc i) k v)
-  where
-    go : Dec (v ≡ i) → (suc i ≤ v → v < suc i + k → List·Memᴰ v (from (suc i) k)) → List·Memᴰ v (i ∷ from (suc i) k)
-    go (yes e) later = List·Memᴰ·head e
-    go (no n) later = List·Memᴰ·tail (later (omega arith) (omega arith))
 
 module _ (rating : ℕ → ℕ) (b : List ℕ) where
   pub plan-valid : AtMostS rating → verdict b ≡ Accepted → Valid (planOf rating b)
-  plan-valid chances h = record { ascending = ascending-from 0 (sizeN b); proper = links-proper rating chances b (from 0 (sizeN b)) (λ v l. within 0 (sizeN b) v (omega arith) (omega arith)) h }
+  plan-valid chances h = record { ascending = ascending-from 0 (sizeN b); proper = links-proper rating chances b (from 0 (sizeN b)) (λ v l. from-node 0 (sizeN b) v (omega arith) (omega arith)) h }
 
   pub plan-links : length (planOf rating b .links) ≡ sizeM b
-  plan-links = length-map (from 0 (sizeM b)) (linkIn rating b) ∙ length-from 0 (sizeM b)
+  plan-links = length-map (from 0 (sizeM b)) (linkIn rating b) ∙ from-size 0 (sizeM b)
 
   pub plan-nodes : length (planOf rating b .nodes) ≡ sizeN b
-  plan-nodes = length-from 0 (sizeN b)
+  plan-nodes = from-size 0 (sizeN b)
 
   -- link i
   pub plan-link : (i : ℕ) → i < sizeM b → linkAt (planOf rating b) i ≡ linkIn rating b i

@@ -1,6 +1,6 @@
 -- The links of a plan.
 use Prim.Native.Nat.{ℕ, zero, suc, _+_, _≤_, _<_}
-use mathlib.Core.Path.{_≡_, sym, ap, _∙_, subst}
+use mathlib.Core.Path.{_≡_, refl, sym, ap, _∙_, subst}
 use mathlib.Core.List.{List, [], _∷_, _++_, map, List·Memᴰ, List·Memᴰ·not-nil, List·Memᴰ·cases-cons}
 use mathlib.Core.Logic.{⊎-elim}
 use native.Mathlib.Numerals.{add-one}
@@ -8,7 +8,7 @@ use native.Mathlib.Omega.{arith}
 use native.Mathlib.Nat.{le-refl, add-zero, zero-add, suc-add, add-suc}
 use lib.ListN.{getD}
 use Rattle.reliability.specs.declared.Link.{Link}
-use Rattle.reliability.specs.Networks.{Proper}
+use Rattle.reliability.specs.Networks.{Proper, ends}
 use Rattle.reliability.proofs.Validity.{value-linked}
 use Rattle.search.specs.Searches.{from}
 use Rattle.ratings.specs.Ratings.{AtMostS}
@@ -50,3 +50,9 @@ module _ (rating : ℕ → ℕ) (chances : AtMostS rating) (b : List ℕ) where
   links-proper vs all accepted = each-member (linkIn rating b) (Proper vs) 0 (sizeM b) (λ j l h.
       let w = accepted-means b .0 accepted .each j (omega arith) in
       record { a-node = all (firstEnd b j) (w .first); b-node = all (secondEnd b j) (w .second); range = λ d. rw value-linked (value-range rating chances d (fileValue b j)); order = value-order rating (fileValue b j) })
+
+-- links rated otherwise join the same nodes
+pub same-ends : (r s : ℕ → ℕ) (plan ks : List ℕ) → map ends (map (linkIn r plan) ks) ≡ map ends (map (linkIn s plan) ks)
+unfolding linkIn
+same-ends r s plan [] = refl
+same-ends r s plan (k ∷ ks) = ap (λ l. ends (linkIn s plan k) ∷ l) (same-ends r s plan ks)

@@ -23,7 +23,7 @@ use Rattle.plan.specs.declared.Rated.the-variants.{Units, OfLength}
 use Rattle.plan.specs.Plans.{sizeM, firstEnd, secondEnd, fileValue, rated, valueOf, linkIn, planOf}
 use Rattle.plan.specs.Weights.{soundParts, allParts, weightIn, weightsOf, isLength, lengthsAmong, lengths, otherLengths}
 use Rattle.plan.proofs.Values.{by-rated}
-use Rattle.plan.proofs.Accepted.{length-from}
+use Rattle.search.proofs.Sets.{from-size}
 
 -- the units by which a link may be off: 2 where it is given by length
 abbrev pub unitsOff : Rated → ℕ
@@ -128,10 +128,10 @@ module _ (b : List ℕ) where
     plan-enclosed = enclosed-at b rating chances places
 
     pub plan-total : total (weightsOf rating b) ≡ S ^ (sizeM b + 2 * lengths b)
-    plan-total = total-at b rating chances places ∙ ap (λ m. S ^ (m + 2 * lengths b)) (length-from 0 (sizeM b))
+    plan-total = total-at b rating chances places ∙ ap (λ m. S ^ (m + 2 * lengths b)) (from-size 0 (sizeM b))
 
   pub plan-lengths : lengths b ≤ sizeM b
-  plan-lengths = omega (arith, few-at b places, length-from 0 (sizeM b))
+  plan-lengths = omega (arith, few-at b places, from-size 0 (sizeM b))
 
   -- without link i
   module _ (i : ℕ) where
@@ -146,6 +146,6 @@ module _ (b : List ℕ) where
 
     pub others-total : (rating : ℕ → ℕ) → AtMostS rating → i < sizeM b → total (deleteAt i (weightsOf rating b)) ≡ S ^ (sizeM b - 1 + 2 * otherLengths b i)
     others-total rating chances place =
-        let size = length-from 0 (sizeM b) in
+        let size = from-size 0 (sizeM b) in
         let fewer : length others ≡ sizeM b - 1 = omega (arith, length-delete {i = i} places (omega arith)) in
         ap total (sym (map-delete (weightIn rating b) i places)) ∙ total-at b rating chances others ∙ ap (λ m. S ^ (m + 2 * otherLengths b i)) fewer

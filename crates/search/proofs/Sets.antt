@@ -5,6 +5,7 @@ use mathlib.Core.List.{List, [], _∷_, zipWith, List·Memᴰ, List·Memᴰ·hea
 use mathlib.Core.Bool.{Bool, true, false, cond, not, _&&_, _||_, true≢false}
 use native.Mathlib.Nat.{pow-suc}
 use native.Mathlib.Omega.{arith}
+use native.Mathlib.Decide.{ℕ-discrete}
 use lib.Dec.{eqb}
 use lib.ListN.{length, getD, set}
 use lib.Seq.{getD-set-same, getD-set-other}
@@ -111,16 +112,31 @@ from-mem (true ∷ bs) i (suc k) (List·Memᴰ·head e) = (0, refl, omega arith)
 from-mem (true ∷ bs) i (suc k) (List·Memᴰ·tail m) = let r = from-mem bs (suc i) k m in (suc (r .0), r .1, omega (arith, r .2))
 from-mem (false ∷ bs) i (suc k) m = let r = from-mem bs (suc i) k m in (suc (r .0), r .1, omega (arith, r .2))
 
-from-least : {v : ℕ} (i k : ℕ) → List·Memᴰ v (from i k) → i ≤ v
+-- the k numbers from i on: how many, and which
+pub from-size : (i k : ℕ) → length (from i k) ≡ k
 unfolding from
-from-least i (suc k) (List·Memᴰ·head e) = omega arith
-from-least i (suc k) (List·Memᴰ·tail m) = omega (arith, from-least (suc i) k m)
+from-size i zero = refl
+from-size i (suc k) = ap suc (from-size (suc i) k)
+
+pub from-below : (i k v : ℕ) → List·Memᴰ v (from i k) → (i ≤ v) × (v < i + k)
+unfolding from
+from-below i (suc k) v (List·Memᴰ·head e) = (omega arith, omega arith)
+from-below i (suc k) v (List·Memᴰ·tail m) = let r = from-below (suc i) k v m in (omega (arith, r .0), omega (arith, r .1))
+
+pub from-node : (i k v : ℕ) → i ≤ v → v < i + k → List·Memᴰ v (from i k)
+unfolding from
+from-node i zero v h l = absurd (omega arith)
+from-node i (suc k) v h l = go (ℕ-discrete v i) (from-node (suc i) k v)
+  where
+    go : Dec (v ≡ i) → (suc i ≤ v → v < suc i + k → List·Memᴰ v (from (suc i) k)) → List·Memᴰ v (i ∷ from (suc i) k)
+    go (yes e) later = List·Memᴰ·head e
+    go (no n) later = List·Memᴰ·tail (later (omega arith) (omega arith))
 
 -- the numbers from i on are in ascending order
 pub ascending-from : (i k : ℕ) → Ascending (from i k)
 unfolding from Ascending
 ascending-from i zero = tt
-ascending-from i (suc k) = (λ u m. omega (arith, from-least (suc i) k m), ascending-from (suc i) k)
+ascending-from i (suc k) = (λ u m. omega (arith, from-below (suc i) k u m .0), ascending-from (suc i) k)
 
 -- the nodes of a set are in ascending order
 pick-ascending : (bs : List Bool) (i k : ℕ) → Ascending (pick bs (from i k))

@@ -17,6 +17,7 @@ use Rattle.reliability.specs.Networks.{Network, Valid, Proper, Ends, ends, valu
 use Rattle.reliability.specs.Exact.{Weighted, sum, total}
 use Rattle.reliability.proofs.Connection.{Const, connected-eq}
 use Rattle.search.specs.Searches.{from}
+use Rattle.search.proofs.Sets.{from-size}
 use Rattle.sets.specs.Sets.{sets, howMany, connectingSets, connectingRow}
 use Rattle.polynomials.specs.Rows.{eval, some, Fits}
 use Rattle.polynomials.proofs.Evals.{same-row, eval-zeros}
@@ -177,13 +178,8 @@ unfolding eval
 eval-padded x [] n = eval-zeros x n
 eval-padded x (a ∷ xs) n = ap (λ k. a + x * k) (eval-padded x xs n)
 
-length-from : (i n : ℕ) → length (from i n) ≡ n
-unfolding from
-length-from i zero = refl
-length-from i (suc n) = ap suc (length-from (suc i) n)
-
 pub row-length : (g : Network) → length (connectingRow g) ≡ suc (length (g .links))
-row-length g = length-map (from 0 (suc (length (g .links)))) (connectingSets g) ∙ length-from 0 (suc (length (g .links)))
+row-length g = length-map (from 0 (suc (length (g .links)))) (connectingSets g) ∙ from-size 0 (suc (length (g .links)))
 
 entry : (f : ℕ → ℕ) (n i : ℕ) → i < n → getD (map f (from 0 n)) i 0 ≡ f i
 unfolding from

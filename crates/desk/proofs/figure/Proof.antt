@@ -8,12 +8,11 @@ use lib.ListN.{length}
 use Rattle.reliability.specs.declared.Figure.{Figure}
 use Rattle.reliability.specs.Networks.{Network as Graph}
 use Rattle.reliability.specs.Terminals.{Terminals, figure}
-use Rattle.search.proofs.Sets.{has-below, mem-has}
+use Rattle.search.proofs.Sets.{has-below, mem-has, from-node}
 use Rattle.tables.specs.Tables.{rating, AcceptedTable}
 use Rattle.plan.specs.declared.Verdict.the-variants.{Accepted as PlanAccepted}
 use Rattle.plan.specs.Plans.{sizeN, verdict, planOf}
 use Rattle.plan.proofs.Verdicts.{accepted-means}
-use Rattle.plan.proofs.Accepted.{within}
 use Rattle.causes.specs.declared.CallVerdict.the-variants.{Accepted}
 use Rattle.causes.specs.Causes.{callReturned}
 use Rattle.causes.proofs.Outcomes.{refused, answers}
@@ -69,7 +68,7 @@ with-chosen-requires c κs =
     let a = c .before .before .before .before .before .before .before .args in
     let n = c .network-of in
     let few = asks (c .before) .5 in
-    (n .ensures .2, λ v h. mem-has (n .result .nodes) v (subst (List·Memᴰ v) (sym (ap (λ (g : Graph). g .nodes) (n .ensures .0))) (let below = has-below (a .choice) (sizeN (a .plan .now)) v few h in within 0 (sizeN (a .plan .now)) v (omega arith) (omega arith))))
+    (n .ensures .2, λ v h. mem-has (n .result .nodes) v (subst (List·Memᴰ v) (sym (ap (λ (g : Graph). g .nodes) (n .ensures .0))) (let below = has-below (a .choice) (sizeN (a .plan .now)) v few h in from-node 0 (sizeN (a .plan .now)) v (omega arith) (omega arith))))
 
 work-requires : tie.Need-work-requires
 work-requires c κs =

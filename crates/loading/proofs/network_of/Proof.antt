@@ -13,7 +13,8 @@ use Rattle.plan.specs.declared.Verdict.the-variants.{Accepted}
 use Rattle.plan.specs.Plans.{sizeN, sizeM, verdict, linkIn, WellFormed}
 use Rattle.plan.proofs.Verdicts.{accepted-means}
 use Rattle.plan.proofs.Links.{from-more}
-use Rattle.plan.proofs.Accepted.{within, plan-valid}
+use Rattle.search.proofs.Sets.{from-node}
+use Rattle.plan.proofs.Accepted.{plan-valid}
 use Rattle.loading.proofs.network_of.Statement.{statement}
 use Rattle.loading.proofs.network_of.Tie as tie
 
@@ -24,7 +25,7 @@ Inv-loop plan table m net₀ i₀ net i =
 proper-in : (table b : List ℕ) (j : ℕ) → AcceptedTable table → verdict b ≡ Accepted → j < sizeM b → Proper (from 0 (sizeN b)) (linkIn (rating table) b j)
 proper-in table b j fine accepted h =
     let f = linkIn (rating table) b in
-    plan-valid (rating table) b (rating-range table fine) accepted .proper (f j) (Memᴰ·map f (within 0 (sizeM b) j (omega arith) (omega arith)))
+    plan-valid (rating table) b (rating-range table fine) accepted .proper (f j) (Memᴰ·map f (from-node 0 (sizeM b) j (omega arith) (omega arith)))
 
 abbrev μ-loop : tie.MeasureT-loop
 μ-loop plan table m net₀ i₀ net i = m - i

@@ -1,0 +1,4 @@
+pub mod Laws
+pub mod Tables
+pub mod Climbs
+pub mod Answers
