@@ -1,8 +1,10 @@
-// The planning desk's six calls, for programs in C.
+// The planning desk's seven calls, for programs in C.
 use causes::CallVerdict;
 ghost use mathlib.Core.Path.{_≡_};
+ghost use lib.ListN.{length};
 ghost use Rattle.sitting_desk.specs.Outcome.{sittingOutcome};
 ghost use Rattle.count_desk.specs.Counts.{countsOutcome};
+ghost use Rattle.game_desk.specs.Games.{gameReturned, GameLeaves};
 ghost use Rattle.desk.specs.Outcomes.{twos, checkOutcome, figureOutcome, importanceOutcome, differenceOutcome};
 
 // Two's complement in 32 bits.
@@ -114,4 +116,12 @@ pub extern "C" fn counts(plan: &[u8], row: &mut [u64]) -> u64
     ensures { λ _. ⌜ now (row .exit) ≡ countsOutcome (now (plan .entry)) (now (row .entry)) .buffer ⌝ }
 {
     count_desk::counts(plan, row)
+}
+
+#[no_mangle]
+pub extern "C" fn game(plan: &[u8], answer: &mut [u8]) -> u64
+    ensures { λ r. ⌜ r ≡ gameReturned (now (plan .entry)) (length (now (answer .entry))) ⌝ }
+    ensures { λ _. ⌜ GameLeaves (now (plan .entry)) (now (answer .entry)) (now (answer .exit)) ⌝ }
+{
+    game_desk::game(plan, answer)
 }

@@ -1,0 +1,4 @@
+pub mod Ahead
+pub mod Verdicts
+mod Bytes
+pub mod Demands
