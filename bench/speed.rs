@@ -3,14 +3,16 @@
 //! chosen, where those are `outside/c/chosen.c` and `outside/src/chosen.rs`. Of these plans and the sample
 //! plans the splits and the time of a whole figure by either choice of the link that is split on, and where it takes too many splits
 //! the figures under some limits; the same of random plans, in the mean. The time that the counts of plans take the library, beside
-//! going through all their sets of links, in turns. Then the time of a whole listing by the program.
+//! going through all their sets of links, in turns, and the time that the game takes it, beside the pebbles of `outside/src/game.rs`,
+//! which decide it and show nothing. Then the time of a whole listing by the program.
 //! As a test, without `--bench` among its words, it does everything once on a small scale and judges no time.
 
 use outside::arithmetic::S;
 use outside::bitsets::figure_by;
 use outside::calls::{answer_of, read, ANSWER, MOST_STEPS};
 use outside::counting::{by_sets, MOST_COUNTED};
-use outside::desk::counted;
+use outside::desk::{counted, played};
+use outside::game::{self, GAME};
 use outside::listing::{by_the_calls, written};
 use outside::plans::{Link, Plan};
 use outside::random::Random;
@@ -418,39 +420,81 @@ fn counts_times(plan: &Plan, scale: &Scale) -> [Times; 2] {
     taken.map(Times::new)
 }
 
-fn counts_row(cells: [&str; 5]) {
-    let [plan, library, range, sets, faster] = cells;
-    println!("| {plan:42} | {library:>8} | {range:>20} | {sets:>8} | {faster:>13} |");
+/// Plans of each outcome of the game: two trees, an opening, and a path of two links for which every opening is tried.
+fn played_plans() -> Vec<(&'static str, Plan)> {
+    let mut random = Random::new(9);
+    let mut hanging = Plan::meshed(&mut random, 30, 62);
+    let path = Plan::alike(32, S / 2, &[[29, 30], [30, 31]]);
+    hanging.nodes = 32;
+    hanging.links.extend(path.links);
+    vec![
+        ("mesh", sample("mesh")),
+        ("two too few", Plan::meshed(&mut random, 32, 60)),
+        ("one too few", Plan::meshed(&mut random, 32, 61)),
+        ("no opening", hanging),
+        ("two-crossings", sample("two-crossings")),
+        ("four-cabinets", sample("four-cabinets")),
+    ]
 }
 
-/// Prints the table of the counts, and returns the largest noise.
-fn counts(scale: &Scale) -> f64 {
-    println!(
-        "\nThe counts of connecting sets, the median of {} runs:\n",
-        scale.runs
-    );
-    counts_row([
-        "plan",
-        "library",
-        "least to most",
-        "all sets",
-        "times as fast",
-    ]);
-    counts_row(["---", "--:", "--:", "--:", "--:"]);
+/// The times of the game by the library and by pebbles, in turns. Both have to agree.
+fn game_times(plan: &Plan, scale: &Scale) -> [Times; 2] {
+    let file = &plan.bytes();
+    let by_the_library = |file: &[u8]| {
+        let mut answer = [0; GAME];
+        assert_eq!(played(file, &mut answer), 0);
+        [answer[0] == 1, answer[1] == 1]
+    };
+    assert_eq!(by_the_library(file), game::winners(plan));
+    let mut taken = [const { Vec::new() }; 2];
+    for _ in 0..scale.runs {
+        taken[0].push(time_of(|| {
+            black_box(by_the_library(black_box(file)));
+        }));
+        taken[1].push(time_of(|| {
+            black_box(game::winners(black_box(plan)));
+        }));
+    }
+    taken.map(Times::new)
+}
+
+fn timed_row(cells: [&str; 5]) {
+    let [plan, library, range, other, faster] = cells;
+    println!("| {plan:42} | {library:>8} | {range:>20} | {other:>8} | {faster:>13} |");
+}
+
+/// Prints a table of the library's times beside those of another way, and returns the largest noise.
+fn timed(other: &str, plans: &[(&'static str, Plan)], times: impl Fn(&Plan) -> [Times; 2]) -> f64 {
+    timed_row(["plan", "library", "least to most", other, "times as fast"]);
+    timed_row(["---", "--:", "--:", "--:", "--:"]);
     let mut noise: f64 = 0.0;
-    for (name, mut plan) in counted_plans() {
-        plan.links.truncate(scale.sets_of);
-        let [library, sets] = counts_times(&plan, scale);
+    for (name, plan) in plans {
+        let [library, other] = times(plan);
         let (nodes, links) = (plan.nodes, plan.links.len());
         let name = format!("{name}: {nodes} nodes, {links} links");
         let [median, least, most] = [library.median(), library.least(), library.most()];
-        let [median, least, most, all] = [median, least, most, sets.median()].map(shown_time);
-        let faster = format!("{:.1}", sets.median() / library.median());
+        let [median, least, most, by_other] = [median, least, most, other.median()].map(shown_time);
+        let faster = format!("{:.1}", other.median() / library.median());
         let range = format!("{least} to {most}");
-        counts_row([&name, &median, &range, &all, &faster]);
-        noise = noise.max(library.noise()).max(sets.noise());
+        timed_row([&name, &median, &range, &by_other, &faster]);
+        noise = noise.max(library.noise()).max(other.noise());
     }
     noise
+}
+
+/// Prints the table of the counts and that of the game, and returns the largest noise.
+fn counts_and_games(scale: &Scale) -> f64 {
+    let runs = scale.runs;
+    println!("\nThe counts of connecting sets, the median of {runs} runs:\n");
+    let mut counted = counted_plans();
+    for (_, plan) in &mut counted {
+        plan.links.truncate(scale.sets_of);
+    }
+    let noise = timed("all sets", &counted, |plan| counts_times(plan, scale));
+    println!("\nThe game, the median of {runs} runs:\n");
+    noise.max(timed("pebbles", &played_plans(), |plan| {
+        game_times(plan, scale)
+    }))
 }
 
 /// Prints the time of a whole listing, and returns the noise.
@@ -478,7 +522,7 @@ fn main() {
     whole_figures(&scale);
     unfinished_figures(&scale);
     random_figures(&scale);
-    let noise = noise.max(counts(&scale));
+    let noise = noise.max(counts_and_games(&scale));
     let noise = noise.max(listings(&scale));
     println!("\nNoise: of the same work, the slowest run took up to {noise:.0} % longer than the fastest.");
 }

@@ -2,35 +2,11 @@
    that of these alone, each within 20,000 steps. Exit status: 0 if both are answered, 1 if one is refused, 2 if the words are
    wrong or the file cannot be read. */
 
+#define PROGRAM "chosen"
+
+#include "contents.h"
 #include "nodes.h"
 #include "print.h"
-
-#include <errno.h>
-#include <stdlib.h>
-#include <string.h>
-
-/* A byte more than the longest plan: what is longer is refused for its length. */
-struct contents {
-    uint8_t bytes[389];
-    size_t length;
-};
-
-static void fail(const char *what, const char *why)
-{
-    fprintf(stderr, "chosen: %s: %s\n", what, why);
-    exit(2);
-}
-
-static void read_file(const char *name, struct contents *to)
-{
-    FILE *file = fopen(name, "rb");
-    if (file == NULL)
-        fail(name, strerror(errno));
-    to->length = fread(to->bytes, 1, sizeof to->bytes, file);
-    if (ferror(file))
-        fail(name, strerror(errno));
-    fclose(file);
-}
 
 /* The choice of one node. Which nodes a plan has is for the call to say. */
 static uint64_t read_node(const char *word)

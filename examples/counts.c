@@ -3,35 +3,11 @@
    disconnect it, and how many sets of so many do. Exit status: 0 if it is answered, 1 if the plan is refused, 2 if the words are
    wrong or the file cannot be read. */
 
+#define PROGRAM "counts"
+
+#include "contents.h"
 #include "plandesk.h"
 #include "refusal.h"
-
-#include <errno.h>
-#include <stdlib.h>
-#include <string.h>
-
-/* A byte more than the longest plan: what is longer is refused for its length. */
-struct contents {
-    uint8_t bytes[389];
-    size_t length;
-};
-
-static void fail(const char *what, const char *why)
-{
-    fprintf(stderr, "counts: %s: %s\n", what, why);
-    exit(2);
-}
-
-static void read_file(const char *name, struct contents *to)
-{
-    FILE *file = fopen(name, "rb");
-    if (file == NULL)
-        fail(name, strerror(errno));
-    to->length = fread(to->bytes, 1, sizeof to->bytes, file);
-    if (ferror(file))
-        fail(name, strerror(errno));
-    fclose(file);
-}
 
 /* How many sets of k links there are among m, at most 24. */
 static uint64_t all_sets(unsigned m, unsigned k)

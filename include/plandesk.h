@@ -1,4 +1,4 @@
-/* The plan calculator's six calls.
+/* The plan calculator's seven calls.
 
    A plan file, all numbers little-endian: n (16 bits), m (16 bits); m pairs of one-byte ends, numbered from 0; m values
    of 32 bits. Its length is 4 + 6 * m; n is 1 to 32, m is 0 to 64. A value of 0 to S = 1,000,000,000 is a link's chance
@@ -8,23 +8,23 @@
    value of it, rounded down and up after each joint: 999,900,002 and 999,900,003 for k = 0, 999,600,032 and 999,600,033
    for k = 1. A chance in units is taken as it is, with its joints in it.
 
-   A table, which every call but check and counts is handed, is a buyer's own rating by length: 512 values of 32 bits,
-   little-endian, so 2,048 bytes, the value at place k for a length of k hundred metres. The first is S, and none is above
-   the one before; equal ones will do, and so will 0. Within that call T[k] is the table's value at k, with the joints as
-   above, for every length, in a difference for those of both plans. With a table of no bytes the T above serves, which is
-   built in.
+   A table, which every call but check, counts and game is handed, is a buyer's own rating by length: 512 values of 32
+   bits, little-endian, so 2,048 bytes, the value at place k for a length of k hundred metres. The first is S, and none is
+   above the one before; equal ones will do, and so will 0. Within that call T[k] is the table's value at k, with the joints
+   as above, for every length, in a difference for those of both plans. With a table of no bytes the T above serves, which
+   is built in.
 
    A choice, which figure is handed, says which nodes count: bit i, of value 2 to the power i, names node i. The chosen
    nodes hang together if the sound links lead from each of them to every other, over any nodes, chosen or not; one node
    alone always does. With all nodes chosen, by 2 to the power n less 1, every node has to reach every other. Importance,
-   difference, sitting and counts take no choice and mean all nodes.
+   difference, sitting, counts and game take no choice and mean all nodes.
 
-   An answer is four 32-bit little-endian numbers, 16 bytes: low, high, steps, finished (1 or 0). They fill the first 16
-   bytes of the answer buffer; later bytes keep their contents. The exact figure, in units, is no less than low and no
-   more than high, finished or not; exact means of the chances as they stand above, those of lengths not rounded. Where a
-   figure is finished, high is at most 2 * m + 4 * n + 4 * L above low, L being the number of links given by length; a
-   finished importance or difference is at most as wide as its two evaluations together may be. All this holds under every
-   table and every choice that is accepted.
+   An answer, but for that of game, is four 32-bit little-endian numbers, 16 bytes: low, high, steps, finished (1 or 0).
+   They fill the first 16 bytes of the answer buffer; later bytes keep their contents. The exact figure, in units, is no less
+   than low and no more than high, finished or not; exact means of the chances as they stand above, those of lengths not
+   rounded. Where a figure is finished, high is at most 2 * m + 4 * n + 4 * L above low, L being the number of links given by
+   length; a finished importance or difference is at most as wide as its two evaluations together may be. All this holds
+   under every table and every choice that is accepted. An answer of game is 98 bytes, which stand at the call.
 
    A row, which counts is handed, is a buffer of 64-bit numbers, as the machine has them; its length counts numbers, not
    bytes.
@@ -33,7 +33,7 @@
    of this list. A refused call leaves the whole answer buffer as it was, the whole work buffer and the whole row.
 
      7             the limit is above 1,000,000
-     9             the answer buffer is under 16 bytes, or the work buffer under 776
+     9             the answer buffer is under 16 bytes (98 for game), or the work buffer under 776
      12            the table has neither 0 nor 2,048 bytes
      13            the table's first value is not S, or a value is above the one before
      1             the file is under 4 bytes
@@ -51,7 +51,8 @@
 
    Links are tested in order, 5 before 6 at each. 12 and 13 are tested also where the plan has no length. 14 is of figure
    alone, and of all 64 bits of the choice; 8 is of importance alone; the work buffer, 10 and 11 are of sitting alone; 15
-   and 16 are of counts alone, which has 1 to 6 beside them and no other; check has 1 to 6 alone.
+   and 16 are of counts alone, which has 1 to 6 beside them and no other; game has 9 and then 1 to 6 and no other; check has
+   1 to 6 alone.
 
    A call asks that each pointer stands for as many bytes, that of a row for as many numbers, as the length behind it says
    (any pointer will do where that is 0), and that a buffer that is written to shares no byte with another buffer, a plan,
@@ -63,8 +64,8 @@
    The slowest of 400 random plans took about as long a step. A sitting takes about as long as a figure under its limit:
    about 0.4 seconds for a first sitting of the mesh at 1,000,000. A later one walks down the open splits first, which
    with 55 of them took less than a ten-thousandth of a second. A table took figure less than a millionth of a second
-   more. A call cannot be stopped; a smaller limit ends it sooner. Counts has no steps and no limit: the
-   slowest plan that was found took it about a hundredth of a second. */
+   more. A call cannot be stopped; a smaller limit ends it sooner. Counts and game have no steps and no limit: the
+   slowest plan that was found took counts about a hundredth of a second, and game about a five-hundredth. */
 
 #ifndef PLANDESK_H
 #define PLANDESK_H
@@ -76,9 +77,13 @@
 extern "C" {
 #endif
 
-/* The bytes of an answer, the bytes of a work buffer, the bytes of a table, the numbers of a row that is always enough, the
-   largest limit, one in units, the value of a length of 0, and the choice of all of n nodes. */
+/* The bytes of an answer, the bytes of an answer of game, the place in it of the first link's byte and of the first node's,
+   the bytes of a work buffer, the bytes of a table, the numbers of a row that is always enough, the largest limit, one in
+   units, the value of a length of 0, and the choice of all of n nodes. */
 #define PLANDESK_ANSWER 16
+#define PLANDESK_GAME 98
+#define PLANDESK_GAME_LINKS 2
+#define PLANDESK_GAME_NODES 66
 #define PLANDESK_WORK 776
 #define PLANDESK_TABLE 2048
 #define PLANDESK_ROW 25
@@ -182,6 +187,39 @@ uint64_t sitting(const uint8_t *plan, size_t plan_len, const uint8_t *table, siz
    The row may be longer than m + 1 numbers; those behind place m keep their contents. 25 numbers are always enough.
    Returns 0, or 1 to 4, 5 + 256 * i, 6 + 256 * i, 15 or 16. A refused call leaves the row as it was. */
 uint64_t counts(const uint8_t *plan, size_t plan_len, uint64_t *row, size_t row_len);
+
+/* Who can force the win at cutter and keeper. The two move in turn until all links are used: the cutter removes a link that is
+   not used yet, the keeper makes one safe. The keeper wins if the safe links connect all nodes, otherwise the cutter. A side can
+   force the win if it has a play that wins whatever the other does; one of the two always has. With one node the keeper has
+   won. The values of the links play no part, but are tested as in every plan.
+
+     byte      holds
+     0         who can force the win if the cutter opens: 1 the keeper, 0 the cutter
+     1         the same if the keeper opens; it is 1 wherever byte 0 is
+     2 + i     of link i: 1 if it is in the first tree, 2 if it is in the second, else 0
+     66 + v    of node v: the number of its group, 0 to g - 1
+
+   Where byte 0 is 1 two trees are shown: n - 1 links marked 1 that connect all nodes, and n - 1 marked 2 that do; no link is in
+   both. They are why the keeper wins, and how: after each of his moves the safe links and the unused ones of the first tree
+   connect all nodes, and so do the safe links and the unused ones of the second. When the cutter removes a link of a tree, the
+   safe links and that tree's unused ones may fall into two sides; then the other tree has an unused link that leads from side
+   to side, and the keeper makes that one safe. If they do not, or if the keeper opens, any link will do. In the end no link is
+   unused, and the safe links alone connect all nodes.
+
+   Where byte 0 is 0, also where the keeper wins if he opens, a grouping is shown: every node is in one of g groups, none of
+   them empty, and fewer than 2 * (g - 1) links lead from group to group. It is why the cutter wins, and how: he opens and
+   removes links between groups as long as there are any. So the keeper gets at most half of them, fewer than g - 1,
+   and g groups cannot be connected by fewer than g - 1 links. Where the keeper opens and byte 1 is 0, there is such a grouping
+   again after each link that he may make safe first, of the plan with that link's ends made one node.
+
+   What is not shown is 0: all link bytes where there is a grouping, all node bytes where there are trees, and the bytes of
+   links from m and of nodes from n on. One node gives 1, 1 and zeros, also where it has loops. There may be other trees or
+   groupings as good as those that are shown. Four nodes, each two joined by a link, give 1 and 1, with three links in each
+   tree; without one of those links 0 and 1, with a grouping such as each node alone, 5 links between 4 groups.
+
+   The buffer may be longer than 98 bytes; those behind keep their contents. Returns 0, or 9, 1 to 4, 5 + 256 * i or
+   6 + 256 * i. A refused call leaves the whole buffer as it was. */
+uint64_t game(const uint8_t *plan, size_t plan_len, uint8_t *answer, size_t answer_len);
 
 #ifdef __cplusplus
 }

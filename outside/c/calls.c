@@ -3,7 +3,7 @@
    contents of these five. The number returned and the contents of both buffers are written to standard output. Every plan,
    table and buffer has a block of memory of its own, of just its size, so that a memory checker sees a byte read or written
    outside; a table of no bytes stands at no address. The row of the counts takes the answer buffer's place, eight bytes to a
-   number. */
+   number. The game has the answer buffer and plan A alone. */
 
 #include "plandesk.h"
 
@@ -34,8 +34,10 @@ static uint64_t made(const uint64_t *asked, const uint8_t *a, const uint8_t *b, 
         return difference(a, a_len, b, b_len, table, table_len, limit, answer, room);
     case 4:
         return sitting(a, a_len, table, table_len, limit, b, b_len, answer, room, work, work_len);
-    default:
+    case 5:
         return counts(a, a_len, (uint64_t *)answer, room / sizeof(uint64_t));
+    default:
+        return game(a, a_len, answer, room);
     }
 }
 

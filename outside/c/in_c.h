@@ -136,7 +136,7 @@ enum {
 /* A slip of the joints or of the table may be made in one place alone, whose number stands before the slip's last two digits. */
 enum { EVERYWHERE, IN_FIGURE, IN_IMPORTANCE, IN_PLAN_A, IN_PLAN_B, IN_SITTING, IN_CARRIED };
 
-enum { CHECK, FIGURE, IMPORTANCE, DIFFERENCE, SITTING, COUNTS };
+enum { CHECK, FIGURE, IMPORTANCE, DIFFERENCE, SITTING, COUNTS, GAME };
 
 /* Of a sitting b is the saved work. Of the counts the answer is the row's bytes. */
 struct call {
@@ -157,5 +157,8 @@ uint64_t in_c(long slip, long chosen_slip, const struct call *c);
 
 /* Makes the call counts with this slip (slips_of_counts.c). */
 uint64_t slipped_counts(long slip, struct call *c);
+
+/* Makes the call game with this slip (slips_of_game.c). */
+uint64_t slipped_game(long slip, struct call *c);
 
 #endif

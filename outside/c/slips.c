@@ -1,13 +1,13 @@
-/* The six calls with one slip, which the variable SLIP chooses; the calls without it stand under other names. Linked in the
+/* The seven calls with one slip, which the variable SLIP chooses; the calls without it stand under other names. Linked in the
    place of the library by examples/slips.rs, which names the slips.
 
    SLIP is the number of a kind and eight more numbers. Of kinds 0 and 1: the call (0 check, 1 figure, 2 importance,
-   3 difference, 4 sitting, 5 counts, which has no answer of kind 0), what is wrong, by how much; and where: of an answer
-   (kind 0) the least and the most links, whether it is finished, the least and the most steps; of a refusal (kind 1) its
-   number without the link. Of kinds 70 to 84 the call, and of kind 76 a count. Of kind 90 a slip of the choice, of the
+   3 difference, 4 sitting, 5 counts and 6 game, which have no answer of kind 0), what is wrong, by how much; and where: of an
+   answer (kind 0) the least and the most links, whether it is finished, the least and the most steps; of a refusal (kind 1)
+   its number without the link. Of kinds 70 to 84 the call, and of kind 76 a count. Of kind 90 a slip of the choice, of the
    joints or of the table, of kind 91 one of chosen nodes, both made in calls in C. Of kind 92 a slip of the choice of
    nodes, made around figure. Of kind 93 the same as of kind 0, where some nodes are not chosen. Of kind 94 a slip of the
-   counts, made in c/slips_of_counts.c. Of other kinds: none. */
+   counts, made in c/slips_of_counts.c, of kind 95 one of the game, made in c/slips_of_game.c. Of other kinds: none. */
 
 #include "in_c.h"
 #include "plandesk.h"
@@ -28,6 +28,7 @@ uint64_t proved_sitting(const uint8_t *plan, size_t plan_len, const uint8_t *tab
                         const uint8_t *saved, size_t saved_len, uint8_t *answer, size_t answer_len, uint8_t *work,
                         size_t work_len);
 uint64_t proved_counts(const uint8_t *plan, size_t plan_len, uint64_t *row, size_t row_len);
+uint64_t proved_game(const uint8_t *plan, size_t plan_len, uint8_t *answer, size_t answer_len);
 
 enum { LOW, HIGH, STEPS, FINISHED, BEHIND, PAST, RETURNED, FIRST, LAST };
 enum { WORK_BEHIND = LAST + 1, WORK_PAST, WORK_FIRST, WORK_LAST, WORK_END };
@@ -45,6 +46,8 @@ static uint64_t proved(const struct call *c)
         return proved_difference(c->a, c->a_len, c->b, c->b_len, c->table, c->table_len, c->limit, c->answer, c->room);
     case COUNTS:
         return proved_counts(c->a, c->a_len, c->row, c->row_len);
+    case GAME:
+        return proved_game(c->a, c->a_len, c->answer, c->room);
     default:
         return proved_sitting(c->a, c->a_len, c->table, c->table_len, c->limit, c->b, c->b_len, c->answer, c->room, c->work,
                               c->work_room);
@@ -750,6 +753,14 @@ static uint64_t counted(struct call *c, const long *s)
     return s[0] == 1 ? wrong_refusal(c, s, proved(c)) : proved(c);
 }
 
+/* The game, which has the slips of kinds 1 and 95 alone. */
+static uint64_t played(struct call *c, const long *s)
+{
+    if (s[0] == 95)
+        return slipped_game(s[1], c);
+    return s[0] == 1 ? wrong_refusal(c, s, proved(c)) : proved(c);
+}
+
 static uint64_t slipped(struct call c)
 {
     long s[9] = {-1, 0, 0, 0, 0, 0, 0, 0, 0};
@@ -761,6 +772,8 @@ static uint64_t slipped(struct call c)
     }
     if (c.which == COUNTS)
         return counted(&c, s);
+    if (c.which == GAME)
+        return played(&c, s);
     if (s[0] == 90)
         return in_c(s[1], SOME_BY_CHOSEN, &c);
     if (s[0] == 91)
@@ -815,4 +828,9 @@ uint64_t counts(const uint8_t *plan, size_t plan_len, uint64_t *row, size_t row_
 {
     return slipped((struct call){.which = COUNTS, .a = plan, .a_len = plan_len, .answer = (uint8_t *)row,
                                  .room = row_len * sizeof *row, .row = row, .row_len = row_len});
+}
+
+uint64_t game(const uint8_t *plan, size_t plan_len, uint8_t *answer, size_t answer_len)
+{
+    return slipped((struct call){.which = GAME, .a = plan, .a_len = plan_len, .answer = answer, .room = answer_len});
 }

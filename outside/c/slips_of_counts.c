@@ -1,34 +1,12 @@
 /* The call counts with one slip, made around the right call: kind 94 of c/slips.c. examples/slips.rs names the slips. */
 
-#include "in_c.h"
+#include "parts.h"
 #include "plandesk.h"
 
 #include <sched.h>
-#include <string.h>
 
 uint64_t proved_check(const uint8_t *plan, size_t plan_len);
 uint64_t proved_counts(const uint8_t *plan, size_t plan_len, uint64_t *row, size_t row_len);
-
-#define MOST_LINKS 64
-#define LENGTH 2147483648u
-#define ONE 1000000000u
-
-/* A plan that is accepted, by its parts. */
-struct plan {
-    unsigned nodes, links;
-    uint8_t ends[MOST_LINKS][2];
-    uint32_t values[MOST_LINKS];
-};
-
-static struct plan parts(const struct call *c)
-{
-    struct plan p = {.nodes = c->a[0], .links = c->a[2]};
-    memcpy(p.ends, c->a + 4, 2 * p.links);
-    for (unsigned i = 0; i < p.links; i++)
-        for (int k = 0; k < 4; k++)
-            p.values[i] |= (uint32_t)c->a[4 + 2 * p.links + 4 * i + k] << 8 * k;
-    return p;
-}
 
 /* The right counts of these parts, and no links more than there are. */
 static void count(const struct plan *p, uint64_t *row)
@@ -37,25 +15,6 @@ static void count(const struct plan *p, uint64_t *row)
     memset(row, 0, PLANDESK_ROW * sizeof *row);
     memcpy(file + 4, p->ends, 2 * p->links);
     proved_counts(file, 4 + 6 * p->links, row, PLANDESK_ROW);
-}
-
-static int is_loop(const struct plan *p, unsigned i)
-{
-    return p->ends[i][0] == p->ends[i][1];
-}
-
-static int side_by_side(const struct plan *p, unsigned i, unsigned j)
-{
-    const uint8_t *a = p->ends[i], *b = p->ends[j];
-    return !is_loop(p, i) && ((a[0] == b[0] && a[1] == b[1]) || (a[0] == b[1] && a[1] == b[0]));
-}
-
-static int has_one_before(const struct plan *p, unsigned i)
-{
-    for (unsigned j = 0; j < i; j++)
-        if (side_by_side(p, i, j))
-            return 1;
-    return 0;
 }
 
 /* Whether the slip drops this link. */
@@ -83,22 +42,6 @@ static int dropped(const struct plan *p, long slip, unsigned i)
     }
 }
 
-static int is_linked(const struct plan *p, unsigned node)
-{
-    for (unsigned i = 0; i < p->links; i++)
-        if (p->ends[i][0] == node || p->ends[i][1] == node)
-            return 1;
-    return 0;
-}
-
-static void rename(struct plan *p, unsigned from, unsigned to)
-{
-    for (unsigned i = 0; i < p->links; i++)
-        for (int k = 0; k < 2; k++)
-            if (p->ends[i][k] == from)
-                p->ends[i][k] = to;
-}
-
 /* Nodes without a link are left out. */
 static void leave_out(struct plan *p)
 {
@@ -106,7 +49,7 @@ static void leave_out(struct plan *p)
         if (!is_linked(p, node) && p->nodes > 1) {
             p->nodes--;
             for (unsigned other = node; other < p->nodes; other++)
-                rename(p, other + 1, other);
+                renamed(p, other + 1, other);
         }
 }
 
@@ -132,7 +75,7 @@ static void of_another_plan(const struct call *c, long slip, uint64_t *row)
     if (slip == 11 && p.nodes > 16)
         p.nodes = 16;
     if (slip == 12 && p.nodes == 25) /* of 25 nodes the last is the one before */
-        rename(&p, 24, 23), p.nodes = 24;
+        renamed(&p, 24, 23), p.nodes = 24;
     if (slip == 13) /* a loop joins its node and the next */
         for (unsigned i = 0; i < p.links; i++)
             p.ends[i][1] = is_loop(&p, i) ? (p.ends[i][0] + 1) % p.nodes : p.ends[i][1];

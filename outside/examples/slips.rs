@@ -4,8 +4,8 @@
 //!     cargo run --release --offline --locked --manifest-path outside/Cargo.toml --example slips [WORD ..]
 //!
 //! tries the slips whose names have all the words, or all slips. It fails if a slip is not caught, or if a test fails without one:
-//! the library is tried so where no words are given, the calls in C and those around the counts where slips of theirs are to be
-//! tried.
+//! the library is tried so where no words are given, the calls in C and those around the counts and the game where slips of theirs
+//! are to be tried.
 
 use outside::programs::ran;
 use outside::repository::{library, path};
@@ -25,13 +25,14 @@ fn slip(name: String, numbers: &[i64]) -> Slip {
     Slip { name, numbers }
 }
 
-const CALLS: [&str; 6] = [
+const CALLS: [&str; 7] = [
     "check",
     "figure",
     "importance",
     "difference",
     "sitting",
     "counts",
+    "game",
 ];
 const CHECK: usize = 0;
 const FIGURE: i64 = 1;
@@ -39,6 +40,7 @@ const IMPORTANCE: usize = 2;
 const DIFFERENCE: usize = 3;
 const SITTING: usize = 4;
 const COUNTS: usize = 5;
+const GAME: usize = 6;
 
 /// More steps than most tests take.
 const MANY: i64 = 50_000;
@@ -115,6 +117,7 @@ fn causes(call: usize) -> Vec<i64> {
         DIFFERENCE => (1..=7).chain([9, 12, 13]).chain(21..=26).collect(),
         SITTING => (1..=7).chain(9..=13).collect(),
         COUNTS => (1..=6).chain([15, 16]).collect(),
+        GAME => (1..=6).chain([9]).collect(),
         _ => (1..=7).chain([9, 12, 13, 14]).collect(),
     }
 }
@@ -566,6 +569,143 @@ fn of_counts() -> Vec<Slip> {
     OF_COUNTS.map(slip).into()
 }
 
+/// The kind of slips of the game.
+const OF_THE_GAME: i64 = 95;
+
+/// Slips of the game, by their numbers in `c/slips_of_game.c`.
+const OF_GAME: [(i64, &str); 119] = [
+    (1, "links of 0 are passed over"),
+    (2, "links of S are passed over"),
+    (3, "lengths are passed over"),
+    (4, "of links side by side the first counts alone"),
+    (5, "the last link is passed over"),
+    (6, "the first link is passed over"),
+    (7, "links from 32 on are passed over"),
+    (8, "the last of 64 links is passed over"),
+    (9, "a loop joins its node and the next"),
+    (10, "the last node is left out where it has no link"),
+    (11, "nodes without a link are left out"),
+    (12, "nodes are four bits"),
+    (13, "of 32 nodes the last is the one before"),
+    (20, "the two openings are exchanged"),
+    (21, "1 is the cutter"),
+    (22, "the opening keeper is the one who does not open"),
+    (23, "the opening cutter is the one who does not open"),
+    (24, "one node is lost"),
+    (25, "one node with loops is lost"),
+    (26, "the keeper is 255"),
+    (27, "the opening keeper wins only where he has to open"),
+    (28, "as many links as two trees but one are enough to open"),
+    (29, "as many links as two trees are enough"),
+    (30, "an odd number of loops takes the opening away"),
+    (31, "one link between two nodes is no opening"),
+    (32, "no opening is found from 16 nodes on"),
+    (33, "no opening is found at 32 nodes"),
+    (34, "the opening keeper wins without a link"),
+    (35, "byte 1 is turned"),
+    (36, "the keeper is 3 where the cutter opens"),
+    (37, "the cutter is 2 where he opens"),
+    (40, "a link in both trees is marked 3"),
+    (41, "a link of the second tree is in the first"),
+    (42, "the first tree lacks a link"),
+    (43, "the second tree lacks a link"),
+    (44, "all other links are in the first tree"),
+    (45, "all other links are in the second tree"),
+    (46, "the trees are 0 and 1"),
+    (47, "marks stand one place too high"),
+    (48, "marks stand one place too low"),
+    (49, "links side by side are in one tree"),
+    (50, "a loop is in the first tree in place of a link"),
+    (51, "a loop is in the second tree besides"),
+    (52, "a link of no tree is in the second for its first"),
+    (53, "place m is marked beside trees"),
+    (54, "place 63 is marked beside trees"),
+    (55, "node 0 is in group 1 beside trees"),
+    (56, "each node is a group beside trees"),
+    (57, "no trees are shown"),
+    (58, "at 32 nodes the first tree lacks a link"),
+    (59, "the last of 64 links is in no tree"),
+    (60, "groups are numbered from 1"),
+    (61, "group 1 is empty"),
+    (62, "the last group is one higher"),
+    (63, "each node is a group"),
+    (64, "all nodes are one group"),
+    (65, "the first two groups are one"),
+    (66, "the pieces are the groups"),
+    (67, "a group has the number of its lowest node"),
+    (68, "groups are four bits"),
+    (69, "the last group is 255"),
+    (70, "a node is in the group of the one before"),
+    (71, "there are two groups at most"),
+    (72, "the last node is in group 0"),
+    (73, "the first node is in the last group"),
+    (74, "node n is in group 1"),
+    (75, "node 31 is in group 1"),
+    (76, "link 0 is marked beside groups"),
+    (77, "place m is marked beside groups"),
+    (78, "of 32 nodes the last is in group 0"),
+    (79, "no grouping is shown without a link"),
+    (80, "the last node of the last group is in the one before"),
+    (81, "the last two groups are one"),
+    (82, "nothing is shown where the keeper has to open"),
+    (
+        83,
+        "trees are shown beside groups where the keeper has to open",
+    ),
+    (84, "trees are shown where the keeper has to open"),
+    (85, "links are marked in turn where the keeper has to open"),
+    (90, "byte 97 is not written"),
+    (91, "byte 0 is not written"),
+    (92, "byte 1 is not written"),
+    (93, "zeros are not written"),
+    (94, "the bytes of no link are not written"),
+    (95, "the bytes of no node are not written"),
+    (96, "bits are added to the buffer's"),
+    (97, "the buffer is cleared behind the answer"),
+    (98, "a 0 is written behind the answer"),
+    (99, "the byte behind the buffer is changed"),
+    (100, "the byte before the buffer is changed"),
+    (101, "the last byte of a longer buffer is changed"),
+    (102, "100 bytes are written where there is room"),
+    (110, "98 bytes are refused"),
+    (111, "a longer buffer is refused"),
+    (112, "9 is tested behind 1 to 6"),
+    (113, "9 is tested behind 1 to 4"),
+    (114, "9 is tested behind 1"),
+    (115, "97 bytes are accepted, and nothing is written"),
+    (116, "16 bytes are accepted, and nothing is written"),
+    (117, "more than 24 links are refused"),
+    (118, "64 links are refused"),
+    (119, "32 nodes are refused"),
+    (120, "one node is refused"),
+    (121, "the link is not returned"),
+    (122, "a link above 31 is not returned"),
+    (123, "no buffer is refused by 16"),
+    (124, "values are not tested"),
+    (130, "the buffer is cleared on 9"),
+    (131, "the buffer is cleared on 1 to 4"),
+    (132, "the buffer is cleared on 5 and 6"),
+    (133, "the refusal is written to the buffer"),
+    (134, "the bytes that fit are written on 9"),
+    (135, "97 bytes are accepted and written"),
+    (140, "the plan is kept where other threads keep theirs"),
+    (141, "the stack is overrun"),
+    (142, "the buffer's length is 16 bits"),
+    (143, "the buffer's length is 8 bits"),
+    (144, "the plan's length is 16 bits"),
+    (145, "a plan at an odd address is refused"),
+    (146, "a buffer at an odd address is refused"),
+    (
+        147,
+        "the last answer serves where the plan has the same sizes",
+    ),
+];
+
+fn of_game() -> Vec<Slip> {
+    let slip = |(number, name)| slip(format!("game: {name}"), &[OF_THE_GAME, number]);
+    OF_GAME.map(slip).into()
+}
+
 /// Where a slip of the joints or of a value may be made alone, in the order of these places' numbers in `c/in_c.h`.
 const PLACES: [&str; 6] = [
     "a figure",
@@ -618,6 +758,7 @@ fn slips() -> Vec<Slip> {
     slips.extend(of_checks());
     slips.extend(of_chosen());
     slips.extend(of_counts());
+    slips.extend(of_game());
     slips.extend(OTHERS.map(|(kind, name)| slip(name.into(), &[kind])));
     slips.extend(of_answers());
     slips
@@ -633,7 +774,7 @@ fn write_libraries(folder: &Path) {
         rename.arg(format!("--redefine-sym={call}=proved_{call}"));
     }
     ran(rename.arg(library("desk")).arg(&archive));
-    for name in ["slips", "in_c", "slips_of_counts"] {
+    for name in ["slips", "in_c", "slips_of_counts", "slips_of_game"] {
         let object = folder.join(format!("{name}.o"));
         let flags = "-std=c11 -O2 -Wall -Wextra -Wpedantic -Werror -c -I";
         let mut gcc = Command::new("gcc");
@@ -759,7 +900,9 @@ fn main() -> ExitCode {
         slips.iter().any(|slip| slip.numbers[0] == kind) && !right(&programs, Some(&none))
     };
     if words.is_empty() && !right(&programs, None)
-        || [IN_C, CHOSEN_IN_C, OF_THE_COUNTS].into_iter().any(fails)
+        || [IN_C, CHOSEN_IN_C, OF_THE_COUNTS, OF_THE_GAME]
+            .into_iter()
+            .any(fails)
     {
         return ExitCode::FAILURE;
     }

@@ -1,6 +1,7 @@
-//! The calculator's six calls, through their C interface.
+//! The calculator's seven calls, through their C interface.
 
 use crate::calls::{answer_of, left, Call, Outcome, ANSWER};
+use crate::game::{self, Winners};
 use crate::sittings::{self, Sat, Sitting};
 use crate::tables::Under;
 
@@ -52,6 +53,7 @@ mod c {
             work_len: usize,
         ) -> u64;
         pub fn counts(plan: *const u8, plan_len: usize, row: *mut u64, row_len: usize) -> u64;
+        pub fn game(plan: *const u8, plan_len: usize, answer: *mut u8, answer_len: usize) -> u64;
     }
 }
 
@@ -115,6 +117,12 @@ pub fn sat<'a>(
 pub fn counted(plan: &[u8], row: &mut [u64]) -> u64 {
     // SAFETY: as above, and the row is lent to this call alone.
     unsafe { c::counts(plan.as_ptr(), plan.len(), row.as_mut_ptr(), row.len()) }
+}
+
+/// Makes the call of the game.
+pub fn played(plan: &[u8], answer: &mut [u8]) -> u64 {
+    // SAFETY: as above.
+    unsafe { c::game(plan.as_ptr(), plan.len(), answer.as_mut_ptr(), answer.len()) }
 }
 
 /// What the call answers.
@@ -215,6 +223,31 @@ pub fn hold_counts(plan: &[u8], room: usize, outcome: &Result<Vec<u64>, u64>) {
     );
 }
 
+/// Makes the call of the game into a buffer of `room` bytes with a guard on both sides, and asserts that the number returned is that
+/// of the outcome and that every byte there may be so. Returns the buffer.
+pub fn hold_game(plan: &[u8], room: usize, outcome: &Result<Winners, u64>) -> Vec<u8> {
+    hold_game_at(plan, room, GUARD, outcome)
+}
+
+/// The same, with so many bytes before the buffer.
+pub fn hold_game_at(
+    plan: &[u8],
+    room: usize,
+    first: usize,
+    outcome: &Result<Winners, u64>,
+) -> Vec<u8> {
+    let before = pattern(first + room + GUARD);
+    let mut all = before.clone();
+    let returned = played(plan, &mut all[first..][..room]);
+    assert_eq!(all[..first], before[..first], "before the buffer: {plan:?}");
+    let left = [&before[first..], &all[first..]];
+    if let Err(wrong) = game::check_left(plan, outcome, returned, left) {
+        let shown = &all[first..][..room.min(game::GAME)];
+        panic!("{wrong}: {plan:?}, room {room}, {outcome:?}, {returned} {shown:?}");
+    }
+    all[first..][..room].to_vec()
+}
+
 /// `check` of no bytes at no address.
 pub fn check_nothing() -> u64 {
     // SAFETY: nothing is read of no bytes.
@@ -249,6 +282,18 @@ pub fn counts_into_nothing(plan: &[u8]) -> u64 {
 pub fn counts_of_nothing(row: &mut [u64]) -> u64 {
     // SAFETY: nothing is read of no bytes.
     unsafe { c::counts(std::ptr::null(), 0, row.as_mut_ptr(), row.len()) }
+}
+
+/// `game` into no bytes at no address.
+pub fn game_into_nothing(plan: &[u8]) -> u64 {
+    // SAFETY: nothing is written to no bytes.
+    unsafe { c::game(plan.as_ptr(), plan.len(), std::ptr::null_mut(), 0) }
+}
+
+/// `game` of no bytes at no address.
+pub fn game_of_nothing(answer: &mut [u8]) -> u64 {
+    // SAFETY: nothing is read of no bytes.
+    unsafe { c::game(std::ptr::null(), 0, answer.as_mut_ptr(), answer.len()) }
 }
 
 /// A sitting of which one lent part (the plan, the table, the saved work, the answer or the work buffer) is no bytes at no address.

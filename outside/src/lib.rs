@@ -9,6 +9,7 @@ pub mod citations;
 pub mod claims;
 pub mod counting;
 pub mod desk;
+pub mod game;
 pub mod library;
 pub mod listing;
 pub mod names;

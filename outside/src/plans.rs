@@ -75,6 +75,19 @@ impl Plan {
         Plan::new(nodes, &links)
     }
 
+    /// The plan with the ends of one link, which are two nodes, made one: the last node is named as the one that goes.
+    pub fn contracted(&self, place: usize) -> Plan {
+        let mut plan = self.clone();
+        let [a, b] = plan.links.remove(place).ends;
+        let last = plan.nodes as u8 - 1;
+        for end in plan.links.iter_mut().flat_map(|link| &mut link.ends) {
+            *end = if *end == b { a } else { *end };
+            *end = if *end == last { b } else { *end };
+        }
+        plan.nodes -= 1;
+        plan
+    }
+
     /// How many of its links are given by length.
     pub fn lengths(&self) -> usize {
         let lengths = self.links.iter().filter_map(Link::length);

@@ -393,19 +393,6 @@ fn values_play_no_part() {
     }
 }
 
-/// The plan with the ends of one link made one node: the last node is named as the one that goes.
-fn contracted(plan: &Plan, place: usize) -> Plan {
-    let mut plan = plan.clone();
-    let [a, b] = plan.links.remove(place).ends;
-    let last = plan.nodes as u8 - 1;
-    for end in plan.links.iter_mut().flat_map(|link| &mut link.ends) {
-        *end = if *end == b { a } else { *end };
-        *end = if *end == last { b } else { *end };
-    }
-    plan.nodes -= 1;
-    plan
-}
-
 /// The sets without a link, and those with it: the plan with its ends made one, moved by one.
 #[test]
 fn with_a_link_and_without() {
@@ -419,7 +406,7 @@ fn with_a_link_and_without() {
         };
         let mut without = plan.clone();
         without.links.remove(place);
-        let with_it = product(&written(&contracted(&plan, place)), &[0, 1]);
+        let with_it = product(&written(&plan.contracted(place)), &[0, 1]);
         let known = sum(&written(&without), &with_it);
         assert_eq!(written(&plan), known, "{plan:?} {place}");
     }

@@ -4,6 +4,7 @@ use outside::arithmetic::S;
 use outside::calls::{all_nodes_of, left, Call};
 use outside::counting;
 use outside::desk::{pattern, row_left, row_pattern};
+use outside::game::{self, GAME};
 use outside::plans::{damaged, Plan};
 use outside::programs::{compiled, ran};
 use outside::random::Random;
@@ -69,11 +70,27 @@ fn any_call<'a>(random: &mut Random, plan: &'a [u8], good: &'a [u8]) -> Call<'a>
     }
 }
 
-/// What is handed to the program, and what it should write.
+/// What is handed to the program, and what it should write: these bytes, or of a game as many of which the check says so.
 struct Trial {
     input: Vec<u8>,
     output: Vec<u8>,
     shown: String,
+    game: Option<Vec<u8>>,
+}
+
+impl Trial {
+    /// Asserts that these bytes, the number returned and the buffers, are what they should be.
+    fn hold(&self, written: &[u8]) {
+        let Some(file) = &self.game else {
+            assert_eq!(written, self.output, "{}", self.shown);
+            return;
+        };
+        let [(number, after), (_, before)] = [written, &self.output].map(|all| all.split_at(8));
+        let returned = u64::from_le_bytes(number.try_into().unwrap());
+        let outcome = game::outcome(file, before.len());
+        let left = game::check_left(file, &outcome, returned, [before, after]);
+        assert_eq!(left, Ok(()), "{}", self.shown);
+    }
 }
 
 fn trial<'a>(call: impl Into<Under<'a, Call<'a>>>, room: usize) -> Trial {
@@ -85,6 +102,7 @@ fn trial<'a>(call: impl Into<Under<'a, Call<'a>>>, room: usize) -> Trial {
         input: record_of_call(&call, &before),
         output: [&number.to_le_bytes(), &buffer[..]].concat(),
         shown: format!("{:?}, a table of {table} bytes, room {room}", call.asked),
+        game: None,
     }
 }
 
@@ -100,6 +118,7 @@ fn trial_of_sitting<'a>(sitting: impl Into<Under<'a, Sitting<'a>>>, rooms: [usiz
         input: record([4, limit, 0], [&answer, plan, saved, &work, table]),
         output: [&number.to_le_bytes(), &answer_left[..], &work_left].concat(),
         shown: format!("{asked:?}, a table of {count} bytes, rooms {rooms:?}"),
+        game: None,
     }
 }
 
@@ -116,6 +135,19 @@ fn trial_of_counts(file: &[u8], room: usize) -> Trial {
         input: record([5, 0, 0], [&row_bytes(&before), file, none, none, none]),
         output: [&number.to_le_bytes(), &row_bytes(&row)[..]].concat(),
         shown: format!("counts of {file:?}, room {room}"),
+        game: None,
+    }
+}
+
+/// Of a game the output is what the buffer held before, behind a number of any value.
+fn trial_of_game(file: &[u8], room: usize) -> Trial {
+    let before = pattern(room);
+    let none: &[u8] = &[];
+    Trial {
+        input: record([6, 0, 0], [&before, file, none, none, none]),
+        output: [&[0; 8], &before[..]].concat(),
+        shown: format!("game of {file:?}, room {room}"),
+        game: Some(file.to_vec()),
     }
 }
 
@@ -131,7 +163,7 @@ fn checked(trials: &[Trial], name: &str) {
     let mut rest = &output[..];
     for trial in trials {
         let (ours, others) = rest.split_at(trial.output.len());
-        assert_eq!(ours, trial.output, "{}", trial.shown);
+        trial.hold(ours);
         rest = others;
     }
     assert!(rest.is_empty());
@@ -265,6 +297,37 @@ fn counts_under_a_memory_checker() {
     }
     assert!(trials.len() > 3_000, "too few: {}", trials.len());
     checked(&trials, "counts");
+}
+
+/// Plans of every size and each outcome, and the same damaged, with buffers that are too short, just enough and longer.
+#[test]
+fn games_under_a_memory_checker() {
+    let mut random = Random::new(46);
+    let mut files: Vec<Vec<u8>> = [1, 2, 9, 20, 31, 32]
+        .map(|nodes| Plan::random_of(&mut random, nodes, 64).bytes())
+        .into();
+    files.push(Plan::meshed(&mut random, 32, 62).bytes());
+    files.push(Plan::meshed(&mut random, 32, 61).bytes());
+    files.push(Plan::new(32, &[]).bytes());
+    files.push(Plan::complete(11, S).bytes());
+    for (most, count) in [(6, 6), (10, 6), (14, 6), (27, 2)] {
+        for _ in 0..count {
+            let file = Plan::random(&mut random, 16, most).bytes();
+            files.extend(damaged(&mut random, &file));
+            files.push(file);
+        }
+    }
+    let mut trials = Vec::new();
+    for file in &files {
+        let room = match random.below(4) {
+            0 => random.below(GAME),
+            1 => GAME + random.below(40),
+            _ => GAME,
+        };
+        trials.push(trial_of_game(file, room));
+    }
+    assert!(trials.len() > 3_000, "too few: {}", trials.len());
+    checked(&trials, "games");
 }
 
 /// The work of a first sitting by either choice.

@@ -4,8 +4,10 @@ use outside::arithmetic::S;
 use outside::calls::{left, Call, Outcome, MOST_STEPS};
 use outside::counting::{self, MOST_COUNTED};
 use outside::desk::{
-    counted, hold, hold_counts, hold_sitting, made, pattern, row_left, row_pattern, sat,
+    counted, hold, hold_counts, hold_game, hold_sitting, made, pattern, played, row_left,
+    row_pattern, sat,
 };
+use outside::game::{self, Winners, GAME};
 use outside::plans::Plan;
 use outside::random::Random;
 use outside::repository::plan;
@@ -214,6 +216,51 @@ fn the_counts_of_24_links() {
     }
 }
 
+/// The same of the game.
+fn game_on_a_small_stack(plan: &Plan) {
+    let file = &plan.bytes();
+    let mut buffer = pattern(GAME + 8);
+    let before = buffer.clone();
+    let returned = thread::scope(|scope| {
+        let small = thread::Builder::new().stack_size(STACK);
+        let run = small.spawn_scoped(scope, || played(file, &mut buffer));
+        run.unwrap().join().unwrap()
+    });
+    let outcome = game::outcome(file, GAME);
+    let left = game::check_left(file, &outcome, returned, [&before, &buffer]);
+    assert_eq!(left, Ok(()), "{plan:?}");
+}
+
+/// Plans of 64 links: the most nodes one behind the other, twice and with two links over; meshed; a path that no opening saves, beside
+/// two trees; few nodes.
+#[test]
+fn the_game_of_64_links() {
+    let of = |nodes, ends: fn(u8) -> [u8; 2]| {
+        let ends: Vec<[u8; 2]> = (0..64).map(ends).collect();
+        Plan::alike(nodes, S / 2, &ends)
+    };
+    let mut random = Random::new(74);
+    let mut hanging = Plan::meshed(&mut random, 30, 62);
+    let path = Plan::alike(32, S / 2, &[[29, 30], [30, 31]]);
+    hanging.nodes = 32;
+    hanging.links.extend(path.links);
+    for plan in [
+        of(32, |i| [i % 31, i % 31 + 1]),
+        of(32, |i| [0, i % 31 + 1]),
+        of(32, |i| [i % 32, (i + 1) % 32]),
+        of(2, |_| [0, 1]),
+        of(1, |_| [0, 0]),
+        of(32, |i| [i % 2, 0]),
+        Plan::meshed(&mut random, 32, 64),
+        Plan::random_of(&mut random, 32, 64),
+        Plan::random_of(&mut random, 12, 64),
+        hanging,
+    ] {
+        assert_eq!(plan.links.len(), 64);
+        game_on_a_small_stack(&plan);
+    }
+}
+
 const THREADS: usize = 8;
 
 /// Plans, and a table for each: three have none.
@@ -273,11 +320,14 @@ fn eight_threads_at_once() {
         .iter()
         .map(|file| counting::outcome(file, 25))
         .collect();
+    let games: Vec<Result<Winners, u64>> =
+        files.iter().map(|file| game::outcome(file, GAME)).collect();
     thread::scope(|scope| {
         for first in 0..THREADS {
             let (calls, outcomes) = (&calls, &outcomes);
             let (sittings, sats) = (&sittings, &sats);
             let (counted_files, rows) = (&counted_files, &rows);
+            let (files, games) = (&files, &games);
             let small = thread::Builder::new().stack_size(STACK);
             let run = move || {
                 for i in 0..4 * calls.len() {
@@ -287,6 +337,7 @@ fn eight_threads_at_once() {
                     hold_counts(&counted_files[counted], 25, &rows[counted]);
                     let i = i % sittings.len();
                     hold_sitting(sittings[i], [24, WORK], &sats[i]);
+                    hold_game(&files[i], GAME, &games[i]);
                 }
             };
             small.spawn_scoped(scope, run).unwrap();

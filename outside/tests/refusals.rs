@@ -1,9 +1,10 @@
-//! Every row of the table of causes, alone and in pairs, at each of the six calls, with lengths in the plans and without, and, of
+//! Every row of the table of causes, alone and in pairs, at each of the seven calls, with lengths in the plans and without, and, of
 //! those that take a table, under a buyer's and the built-in one: of the independent version, and of the library.
 
 use outside::arithmetic::S;
 use outside::calls::{held, Call};
 use outside::counting;
+use outside::game;
 use outside::plans::{Plan, LENGTH};
 use outside::sittings::{held_into, sizes, Begun, Sitting, RUNNING};
 use outside::tables;
@@ -93,6 +94,7 @@ struct Asked {
     saved: Work,
     table: Ratings,
     row: usize,
+    game_room: usize,
 }
 
 /// Calls of which nothing is wrong: with a length in the plan or none, under no table and under a buyer's.
@@ -138,6 +140,7 @@ fn accepted(value: u32) -> Asked {
             kept: usize::MAX,
         },
         row: 4,
+        game_room: 98,
     }
 }
 
@@ -300,6 +303,14 @@ fn of_the_links_and_the_row() -> Vec<Fault<Asked>> {
     faults
 }
 
+/// Row 9 of the game, whose answer is longer.
+fn of_the_game_buffer() -> Vec<Fault<Asked>> {
+    let rooms = [0, 1, 16, 66, 97];
+    rooms
+        .map(|room| fault(9, move |q: &mut Asked| q.game_room = room))
+        .into()
+}
+
 /// Each fault alone, and each two with different numbers: the one that is tested first decides.
 fn alone_and_in_pairs(faults: &[Fault<Asked>], returned: impl Fn(&Asked) -> Result<(), u64>) {
     for accepted in all_accepted() {
@@ -407,6 +418,16 @@ fn of_counts() {
     alone_and_in_pairs(&faults, |q| {
         let plan = &q.a.bytes();
         counting::held(plan, q.row).map(|_| ())
+    });
+}
+
+#[test]
+fn of_game() {
+    let mut faults = of_the_game_buffer();
+    faults.extend(of_plan_a());
+    alone_and_in_pairs(&faults, |q| {
+        let plan = &q.a.bytes();
+        game::held(plan, q.game_room).map(|_| ())
     });
 }
 
