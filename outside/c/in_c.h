@@ -161,4 +161,7 @@ uint64_t slipped_counts(long slip, struct call *c);
 /* Makes the call game with this slip (slips_of_game.c). */
 uint64_t slipped_game(long slip, struct call *c);
 
+/* Makes the call game by a search in C, with this slip (slips_of_search.c). */
+uint64_t searched_game(long slip, struct call *c);
+
 #endif

@@ -7,7 +7,8 @@
    its number without the link. Of kinds 70 to 84 the call, and of kind 76 a count. Of kind 90 a slip of the choice, of the
    joints or of the table, of kind 91 one of chosen nodes, both made in calls in C. Of kind 92 a slip of the choice of
    nodes, made around figure. Of kind 93 the same as of kind 0, where some nodes are not chosen. Of kind 94 a slip of the
-   counts, made in c/slips_of_counts.c, of kind 95 one of the game, made in c/slips_of_game.c. Of other kinds: none. */
+   counts, made in c/slips_of_counts.c, of kind 95 one of the game, made in c/slips_of_game.c, of kind 97 one of the game by a
+   search in C, made in c/slips_of_search.c. Of kind 96 the call, and what of its plans or table is changed. Of other kinds: none. */
 
 #include "in_c.h"
 #include "plandesk.h"
@@ -753,12 +754,25 @@ static uint64_t counted(struct call *c, const long *s)
     return s[0] == 1 ? wrong_refusal(c, s, proved(c)) : proved(c);
 }
 
-/* The game, which has the slips of kinds 1 and 95 alone. */
+/* The game, which has the slips of kinds 1, 95 and 97 alone. */
 static uint64_t played(struct call *c, const long *s)
 {
     if (s[0] == 95)
         return slipped_game(s[1], c);
+    if (s[0] == 97)
+        return searched_game(s[1], c);
     return s[0] == 1 ? wrong_refusal(c, s, proved(c)) : proved(c);
+}
+
+/* Kind 96: a byte that the call may only read is changed, the last of plan A, of plan B or the saved work, or of the table. */
+static uint64_t changed(const struct call *c, const long *s)
+{
+    uint64_t returned = proved(c);
+    const uint8_t *lent[] = {c->a, c->b, c->table};
+    size_t lengths[] = {c->a_len, c->b_len, c->table_len};
+    if (s[1] == (long)c->which && returned == 0 && lengths[s[2]] > 4)
+        ((uint8_t *)lent[s[2]])[lengths[s[2]] - 1] ^= 1;
+    return returned;
 }
 
 static uint64_t slipped(struct call c)
@@ -770,6 +784,8 @@ static uint64_t slipped(struct call c)
         s[i] = strtol(text, &end, 10);
         text = end;
     }
+    if (s[0] == 96)
+        return changed(&c, s);
     if (c.which == COUNTS)
         return counted(&c, s);
     if (c.which == GAME)

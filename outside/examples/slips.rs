@@ -706,6 +706,48 @@ fn of_game() -> Vec<Slip> {
     OF_GAME.map(slip).into()
 }
 
+/// The kind of slips of the game by a search in C.
+const OF_THE_SEARCH: i64 = 97;
+
+/// Slips of that search, by their numbers in `c/slips_of_search.c`.
+const OF_SEARCH: [(i64, &str); 3] = [
+    (1, "the search climbs eight levels at most"),
+    (2, "there are m + 14 placements at most"),
+    (3, "there are m + 30 placements at most"),
+];
+
+fn of_search() -> Vec<Slip> {
+    let slip = |(number, name)| slip(format!("game: {name}"), &[OF_THE_SEARCH, number]);
+    OF_SEARCH.map(slip).into()
+}
+
+/// The kind of slips that change what is lent to be read.
+const CHANGED: i64 = 96;
+
+fn of_what_is_lent() -> Vec<Slip> {
+    let mut slips = Vec::new();
+    for (call, of) in (0..).zip(CALLS) {
+        for (number, what) in [
+            (0, "the plan"),
+            (1, "plan B"),
+            (1, "the saved work"),
+            (2, "the table"),
+        ] {
+            let has = match what {
+                "the plan" => true,
+                "plan B" => call == DIFFERENCE,
+                "the saved work" => call == SITTING,
+                _ => (FIGURE as usize..=SITTING).contains(&call),
+            };
+            if has {
+                let numbers = [CHANGED, call as i64, number];
+                slips.push(slip(format!("{of}: {what} is changed"), &numbers));
+            }
+        }
+    }
+    slips
+}
+
 /// Where a slip of the joints or of a value may be made alone, in the order of these places' numbers in `c/in_c.h`.
 const PLACES: [&str; 6] = [
     "a figure",
@@ -759,6 +801,8 @@ fn slips() -> Vec<Slip> {
     slips.extend(of_chosen());
     slips.extend(of_counts());
     slips.extend(of_game());
+    slips.extend(of_search());
+    slips.extend(of_what_is_lent());
     slips.extend(OTHERS.map(|(kind, name)| slip(name.into(), &[kind])));
     slips.extend(of_answers());
     slips
@@ -774,7 +818,13 @@ fn write_libraries(folder: &Path) {
         rename.arg(format!("--redefine-sym={call}=proved_{call}"));
     }
     ran(rename.arg(library("desk")).arg(&archive));
-    for name in ["slips", "in_c", "slips_of_counts", "slips_of_game"] {
+    for name in [
+        "slips",
+        "in_c",
+        "slips_of_counts",
+        "slips_of_game",
+        "slips_of_search",
+    ] {
         let object = folder.join(format!("{name}.o"));
         let flags = "-std=c11 -O2 -Wall -Wextra -Wpedantic -Werror -c -I";
         let mut gcc = Command::new("gcc");
@@ -900,7 +950,7 @@ fn main() -> ExitCode {
         slips.iter().any(|slip| slip.numbers[0] == kind) && !right(&programs, Some(&none))
     };
     if words.is_empty() && !right(&programs, None)
-        || [IN_C, CHOSEN_IN_C, OF_THE_COUNTS, OF_THE_GAME]
+        || [IN_C, CHOSEN_IN_C, OF_THE_COUNTS, OF_THE_GAME, OF_THE_SEARCH]
             .into_iter()
             .any(fails)
     {

@@ -144,13 +144,28 @@ pub fn pattern(room: usize) -> Vec<u8> {
 
 const GUARD: usize = 48;
 
+/// Makes a call that may only read what is lent here, and asserts that it has left each byte of it.
+fn unchanged<const N: usize>(lent: [&[u8]; N], call: impl FnOnce() -> u64) -> u64 {
+    let before = lent.map(<[u8]>::to_vec);
+    let returned = call();
+    let after = std::hint::black_box(lent);
+    assert!(after == before, "what was lent is changed: {before:?}");
+    returned
+}
+
 /// Makes the call into a buffer of `room` bytes with a guard behind, and asserts that the number returned and every byte
 /// there are those of the outcome.
 pub fn hold<'a>(call: impl Into<Under<'a, Call<'a>>>, room: usize, outcome: &Outcome) {
     let call = call.into();
     let before = pattern(room + GUARD);
     let mut buffer = before.clone();
-    let returned = made(call, &mut buffer[..room]);
+    let (a, b) = match call.asked {
+        Call::Difference { a, b, .. } => (a, b),
+        Call::Check { plan } | Call::Figure { plan, .. } | Call::Importance { plan, .. } => {
+            (plan, plan)
+        }
+    };
+    let returned = unchanged([a, b, call.table], || made(call, &mut buffer[..room]));
     let expected = left(outcome, &before);
     assert_eq!(
         (returned, buffer),
@@ -180,7 +195,8 @@ pub fn hold_sitting_at<'a>(
     let [mut answer, mut work] = before.clone();
     let to_answer = &mut answer[first[0]..][..rooms[0]];
     let to_work = &mut work[first[1]..][..rooms[1]];
-    let returned = sat(sitting, to_answer, to_work);
+    let lent = [sitting.asked.plan, sitting.asked.saved, sitting.table];
+    let returned = unchanged(lent, || sat(sitting, to_answer, to_work));
     let [(front, old), (work_front, old_work)] = [0, 1].map(|i| before[i].split_at(first[i]));
     let (number, left, left_work) = sittings::left(outcome, old, old_work);
     let left = [front, &left].concat();
@@ -213,7 +229,7 @@ pub fn hold_counts(plan: &[u8], room: usize, outcome: &Result<Vec<u64>, u64>) {
     let first = GUARD + room % 2;
     let before = row_pattern(first + room + GUARD);
     let mut row = before.clone();
-    let returned = counted(plan, &mut row[first..][..room]);
+    let returned = unchanged([plan], || counted(plan, &mut row[first..][..room]));
     let (number, behind) = row_left(outcome, &before[first..]);
     let left = [&before[..first], &behind].concat();
     assert_eq!(
@@ -238,7 +254,7 @@ pub fn hold_game_at(
 ) -> Vec<u8> {
     let before = pattern(first + room + GUARD);
     let mut all = before.clone();
-    let returned = played(plan, &mut all[first..][..room]);
+    let returned = unchanged([plan], || played(plan, &mut all[first..][..room]));
     assert_eq!(all[..first], before[..first], "before the buffer: {plan:?}");
     let left = [&before[first..], &all[first..]];
     if let Err(wrong) = game::check_left(plan, outcome, returned, left) {

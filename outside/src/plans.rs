@@ -228,6 +228,22 @@ impl Plan {
         plan.with_lengths(random, of_ten)
     }
 
+    /// Two trees of 32 nodes, in an order in which links have to be moved far to make them: a search by levels climbs up to 26, and
+    /// puts 36 links more than there are.
+    pub fn moved_far() -> Plan {
+        let ends: Vec<[u8; 2]> = MOVED_FAR.chunks(2).map(|pair| [pair[0], pair[1]]).collect();
+        Plan::alike(32, S / 2, &ends)
+    }
+
+    /// Two trees of 30 nodes and more, and a path of two links at one of them: 64 links of which no opening saves the last two.
+    pub fn hanging_path(random: &mut Random) -> Plan {
+        let mut plan = Plan::meshed(random, 30, 62);
+        let path = Plan::alike(32, S / 2, &[[29, 30], [30, 31]]);
+        plan.nodes = 32;
+        plan.links.extend(path.links);
+        plan
+    }
+
     /// The same plan with lengths for so many of ten links.
     pub fn with_lengths(mut self, random: &mut Random, of_ten: usize) -> Plan {
         for link in &mut self.links {
@@ -238,6 +254,15 @@ impl Plan {
         self
     }
 }
+
+/// The ends of the links of `Plan::moved_far`.
+const MOVED_FAR: [u8; 124] = [
+    3, 27, 23, 27, 26, 8, 3, 26, 20, 26, 9, 25, 20, 19, 8, 29, 0, 7, 16, 5, 18, 12, 26, 28, 8, 2,
+    24, 15, 26, 18, 9, 30, 18, 9, 12, 14, 22, 13, 15, 25, 6, 17, 7, 25, 10, 1, 11, 29, 19, 1, 18,
+    24, 20, 5, 11, 4, 30, 27, 30, 25, 27, 24, 25, 4, 16, 17, 11, 3, 31, 7, 23, 16, 22, 24, 26, 22,
+    18, 28, 13, 0, 15, 28, 25, 24, 31, 23, 16, 9, 31, 0, 12, 19, 21, 29, 27, 31, 14, 8, 2, 1, 6,
+    13, 17, 14, 16, 10, 6, 16, 1, 4, 4, 21, 21, 26, 11, 27, 21, 10, 22, 25, 24, 22, 25, 2,
+];
 
 /// How many of ten links are lengths: all in half of the plans, and some in the others.
 pub fn of_ten(random: &mut Random) -> usize {

@@ -232,7 +232,7 @@ fn game_on_a_small_stack(plan: &Plan) {
 }
 
 /// Plans of 64 links: the most nodes one behind the other, twice and with two links over; meshed; a path that no opening saves, beside
-/// two trees; few nodes.
+/// two trees; few nodes; two trees for which links have to be moved far, with two links over and without.
 #[test]
 fn the_game_of_64_links() {
     let of = |nodes, ends: fn(u8) -> [u8; 2]| {
@@ -240,11 +240,12 @@ fn the_game_of_64_links() {
         Plan::alike(nodes, S / 2, &ends)
     };
     let mut random = Random::new(74);
-    let mut hanging = Plan::meshed(&mut random, 30, 62);
-    let path = Plan::alike(32, S / 2, &[[29, 30], [30, 31]]);
-    hanging.nodes = 32;
-    hanging.links.extend(path.links);
+    let mut far = Plan::moved_far();
+    game_on_a_small_stack(&far);
+    far.links.extend(Plan::between(&[S / 2; 2]).links);
     for plan in [
+        far,
+        Plan::hanging_path(&mut random),
         of(32, |i| [i % 31, i % 31 + 1]),
         of(32, |i| [0, i % 31 + 1]),
         of(32, |i| [i % 32, (i + 1) % 32]),
@@ -254,7 +255,6 @@ fn the_game_of_64_links() {
         Plan::meshed(&mut random, 32, 64),
         Plan::random_of(&mut random, 32, 64),
         Plan::random_of(&mut random, 12, 64),
-        hanging,
     ] {
         assert_eq!(plan.links.len(), 64);
         game_on_a_small_stack(&plan);

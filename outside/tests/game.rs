@@ -151,11 +151,43 @@ fn two_trees_and_less() {
                 let node = random.below(nodes.into()) as u8;
                 looped.insert(random.below(looped.len() + 1), [node; 2]);
             }
-            looped.truncate(64);
-            if ends.len() < 62 {
-                hold_winners(&of(nodes.into(), &looped), known);
-            }
+            hold_winners(&of(nodes.into(), &looped), known);
             ends.pop();
+        }
+    }
+}
+
+/// Two paths of 16 nodes, side by side, with a link from each node of the first to that beside it and to the one behind; the first two
+/// are joined twice.
+fn braced_ladder() -> Vec<[u8; 2]> {
+    let rungs = (0..16).map(|i| [i, 16 + i]);
+    let others = (0..15).flat_map(|i| [[i, i + 1], [16 + i, 17 + i], [i, 17 + i]]);
+    rungs.chain(others).chain([[0, 16]]).collect()
+}
+
+/// Each node joined to the next and to the one behind that; the first two are joined twice.
+fn triangles() -> Vec<[u8; 2]> {
+    let braces = (0..30).map(|i| [i, i + 2]);
+    path(32).into_iter().chain(braces).chain([[0, 1]]).collect()
+}
+
+/// Plans that are two trees and not a link more, with their links in many orders: whoever looks for the trees has to move links that
+/// are put already, and others for those.
+#[test]
+fn links_that_have_to_be_moved_far() {
+    let mut random = Random::new(223);
+    let fixed = Plan::moved_far().links;
+    let fixed = fixed.iter().map(|link| link.ends).collect();
+    for (family, times) in [(fixed, 1), (braced_ladder(), 400), (triangles(), 400)] {
+        assert_eq!(family.len(), 62);
+        let mut ends = family;
+        for _ in 0..times {
+            let mut fewer = ends.clone();
+            for known in [KEEPER, OPENER, CUTTER] {
+                hold_winners(&of(32, &fewer), known);
+                fewer.pop();
+            }
+            random.shuffle(&mut ends);
         }
     }
 }
