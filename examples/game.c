@@ -10,6 +10,22 @@
 #include "moves.h"
 #include "refusal.h"
 
+/* Reads a line of standard input and keeps its first 79 characters, a NUL as a question mark, without the carriage return that may
+   end it. Whether they are digits alone. */
+static int read_number(char *line)
+{
+    size_t length = 0;
+    int c = getchar();
+    if (c == EOF)
+        fail("standard input", "ended before all links were used");
+    for (; c != '\n' && c != EOF; c = getchar())
+        if (length < 79)
+            line[length++] = c == 0 ? '?' : c;
+    length -= length > 0 && line[length - 1] == '\r';
+    line[length] = 0;
+    return length > 0 && strspn(line, "0123456789") == length;
+}
+
 /* The number of an open link, from a line of standard input; asks again where it is none. */
 static int persons(const struct play *p, const char *word)
 {
@@ -17,15 +33,9 @@ static int persons(const struct play *p, const char *word)
     for (;;) {
         printf("Which link do you %s?\n", word);
         fflush(stdout);
-        if (fgets(line, sizeof line, stdin) == NULL)
-            fail("standard input", "ended before all links were used");
-        size_t length = strcspn(line, "\n");
-        for (int c = line[length]; c != '\n' && c != EOF;)
-            c = getchar();
-        line[length] = 0;
-        if (length == 0 || strspn(line, "0123456789") != length)
+        if (!read_number(line))
             printf("'%s' is not a number\n", line);
-        else if (length > 2 || atoi(line) >= p->links)
+        else if (strlen(line) > 2 || atoi(line) >= p->links)
             printf("there is no link %s, they are 0 to %d\n", line, p->links - 1);
         else if (p->done[atoi(line)] != OPEN)
             printf("link %s is %s already\n", line, p->done[atoi(line)] == CUT ? "cut" : "safe");

@@ -313,6 +313,11 @@ fn wrong_lines() {
         ("-1", "'-1' is not a number"),
         ("1 ", "'1 ' is not a number"),
         ("0x1", "'0x1' is not a number"),
+        ("1\0", "'1?' is not a number"),
+        ("1\0\0", "'1??' is not a number"),
+        ("\0", "'?' is not a number"),
+        ("1\r\r", "'1\r' is not a number"),
+        ("63\r", "there is no link 63, they are 0 to 5"),
         ("6", "there is no link 6, they are 0 to 5"),
         ("64", "there is no link 64, they are 0 to 5"),
         ("255", "there is no link 255, they are 0 to 5"),
@@ -320,7 +325,7 @@ fn wrong_lines() {
         (&long, &cut),
         ("2", "link 2 is safe already"),
     ];
-    let moves = ["0", "1", "2", "3", "4", "5"].join("\n");
+    let moves = ["0", "1\r", "2", "3\r", "4", "5"].join("\n");
     let lines: Vec<&str> = wrong.iter().map(|(line, _)| *line).collect();
     let input = format!("2\n{}\n{moves}", lines.join("\n"));
     let (status, text, said) = run(&program, &words, &input);
