@@ -423,10 +423,7 @@ fn counts_times(plan: &Plan, scale: &Scale) -> [Times; 2] {
 /// Plans of each outcome of the game: two trees, an opening, and a path of two links for which every opening is tried.
 fn played_plans() -> Vec<(&'static str, Plan)> {
     let mut random = Random::new(9);
-    let mut hanging = Plan::meshed(&mut random, 30, 62);
-    let path = Plan::alike(32, S / 2, &[[29, 30], [30, 31]]);
-    hanging.nodes = 32;
-    hanging.links.extend(path.links);
+    let hanging = Plan::hanging_path(&mut random);
     vec![
         ("mesh", sample("mesh")),
         ("two too few", Plan::meshed(&mut random, 32, 60)),
@@ -474,7 +471,8 @@ fn timed(other: &str, plans: &[(&'static str, Plan)], times: impl Fn(&Plan) -> [
         let name = format!("{name}: {nodes} nodes, {links} links");
         let [median, least, most] = [library.median(), library.least(), library.most()];
         let [median, least, most, by_other] = [median, least, most, other.median()].map(shown_time);
-        let faster = format!("{:.1}", other.median() / library.median());
+        let faster = other.median() / library.median();
+        let faster = format!("{faster:.*}", if faster < 1.0 { 2 } else { 1 });
         let range = format!("{least} to {most}");
         timed_row([&name, &median, &range, &by_other, &faster]);
         noise = noise.max(library.noise()).max(other.noise());

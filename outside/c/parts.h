@@ -1,11 +1,14 @@
-/* A plan that is accepted, by its parts, for the slips of the counts and of the game. */
+/* A plan that is accepted, by its parts, and slips that are alike, for the slips of the counts and of the game. */
 
 #ifndef PARTS_H
 #define PARTS_H
 
 #include "in_c.h"
 
+#include <sched.h>
 #include <string.h>
+
+uint64_t proved_check(const uint8_t *plan, size_t plan_len);
 
 #define MOST_LINKS 64
 #define LENGTH 2147483648u
@@ -60,6 +63,29 @@ static inline void renamed(struct plan *p, unsigned from, unsigned to)
         for (int k = 0; k < 2; k++)
             if (p->ends[i][k] == from)
                 p->ends[i][k] = to;
+}
+
+/* The plan is kept where other threads keep theirs. */
+static inline uint64_t kept(const struct call *c, uint64_t (*proved)(const struct call *c))
+{
+    static uint8_t plan[4 + 6 * MOST_LINKS];
+    struct call other = *c;
+    if (proved_check(c->a, c->a_len) != 0)
+        return proved(c);
+    memcpy(plan, c->a, c->a_len);
+    other.a = plan;
+    sched_yield();
+    return proved(&other);
+}
+
+/* The stack is overrun. */
+static inline uint64_t deep(const struct call *c, uint64_t (*proved)(const struct call *c))
+{
+    volatile uint8_t taken[512 * 1024];
+    for (size_t i = 0; i < sizeof taken; i += 512)
+        taken[i] = 1;
+    uint64_t returned = proved(c);
+    return taken[512] == 1 ? returned : 1;
 }
 
 #endif

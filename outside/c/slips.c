@@ -8,7 +8,8 @@
    joints or of the table, of kind 91 one of chosen nodes, both made in calls in C. Of kind 92 a slip of the choice of
    nodes, made around figure. Of kind 93 the same as of kind 0, where some nodes are not chosen. Of kind 94 a slip of the
    counts, made in c/slips_of_counts.c, of kind 95 one of the game, made in c/slips_of_game.c, of kind 97 one of the game by a
-   search in C, made in c/slips_of_search.c. Of kind 96 the call, and what of its plans or table is changed. Of other kinds: none. */
+   search in C, made in c/slips_of_search.c. Of kind 96 the call, and which of its plans and its table is changed. Of other
+   kinds: none. */
 
 #include "in_c.h"
 #include "plandesk.h"
@@ -765,7 +766,7 @@ static uint64_t played(struct call *c, const long *s)
 }
 
 /* Kind 96: a byte that the call may only read is changed, the last of plan A, of plan B or the saved work, or of the table. */
-static uint64_t changed(const struct call *c, const long *s)
+static uint64_t lent_changed(const struct call *c, const long *s)
 {
     uint64_t returned = proved(c);
     const uint8_t *lent[] = {c->a, c->b, c->table};
@@ -785,7 +786,7 @@ static uint64_t slipped(struct call c)
         text = end;
     }
     if (s[0] == 96)
-        return changed(&c, s);
+        return lent_changed(&c, s);
     if (c.which == COUNTS)
         return counted(&c, s);
     if (c.which == GAME)

@@ -3,10 +3,12 @@
 #include "parts.h"
 #include "plandesk.h"
 
-#include <sched.h>
-
-uint64_t proved_check(const uint8_t *plan, size_t plan_len);
 uint64_t proved_counts(const uint8_t *plan, size_t plan_len, uint64_t *row, size_t row_len);
+
+static uint64_t proved(const struct call *c)
+{
+    return proved_counts(c->a, c->a_len, c->row, c->row_len);
+}
 
 /* The right counts of these parts, and no links more than there are. */
 static void count(const struct plan *p, uint64_t *row)
@@ -233,7 +235,7 @@ static uint64_t refused_otherwise(const struct call *c, long slip, uint64_t retu
 /* Slips 73 to 78: the row on a refusal. */
 static uint64_t written_on_refusal(struct call *c, long slip)
 {
-    uint64_t right[PLANDESK_ROW], returned = proved_counts(c->a, c->a_len, c->row, c->row_len), cause = returned % 256;
+    uint64_t right[PLANDESK_ROW], returned = proved(c), cause = returned % 256;
     size_t fits = c->row_len < PLANDESK_ROW ? c->row_len : PLANDESK_ROW;
     struct plan p;
     if (slip == 73 && cause == 16 && c->row_len == c->a[2]) { /* a row of m numbers is accepted, and entry m left out */
@@ -254,35 +256,14 @@ static uint64_t written_on_refusal(struct call *c, long slip)
     return returned;
 }
 
-/* The plan is kept where other threads keep theirs. */
-static uint64_t kept(const struct call *c)
-{
-    static uint8_t plan[4 + 6 * MOST_LINKS];
-    if (proved_check(c->a, c->a_len) != 0)
-        return proved_counts(c->a, c->a_len, c->row, c->row_len);
-    memcpy(plan, c->a, c->a_len);
-    sched_yield();
-    return proved_counts(plan, c->a_len, c->row, c->row_len);
-}
-
-/* The stack is overrun. */
-static uint64_t deep(const struct call *c)
-{
-    volatile uint8_t taken[512 * 1024];
-    for (size_t i = 0; i < sizeof taken; i += 512)
-        taken[i] = 1;
-    uint64_t returned = proved_counts(c->a, c->a_len, c->row, c->row_len);
-    return taken[512] == 1 ? returned : 1;
-}
-
 /* Slips 80 to 86. */
 static uint64_t counted_otherwise(const struct call *c, long slip)
 {
     switch (slip) {
     case 80: /* the plan is kept where other threads keep theirs */
-        return kept(c);
+        return kept(c, proved);
     case 81: /* the stack is overrun */
-        return deep(c);
+        return deep(c, proved);
     case 82: /* the row's length is 16 bits */
         return proved_counts(c->a, c->a_len, c->row, c->row_len & 0xffff);
     case 83: /* the row's length is 8 bits */
@@ -290,11 +271,11 @@ static uint64_t counted_otherwise(const struct call *c, long slip)
     case 84: /* the plan's length is 16 bits */
         return proved_counts(c->a, c->a_len & 0xffff, c->row, c->row_len);
     case 85: /* a plan at an odd address is refused */
-        return (uintptr_t)c->a % 2 == 1 ? 4 : proved_counts(c->a, c->a_len, c->row, c->row_len);
+        return (uintptr_t)c->a % 2 == 1 ? 4 : proved(c);
     case 86: /* a row at no multiple of 16 is refused */
-        return (uintptr_t)c->row % 16 != 0 ? 16 : proved_counts(c->a, c->a_len, c->row, c->row_len);
+        return (uintptr_t)c->row % 16 != 0 ? 16 : proved(c);
     default:
-        return proved_counts(c->a, c->a_len, c->row, c->row_len);
+        return proved(c);
     }
 }
 
@@ -310,10 +291,10 @@ uint64_t slipped_counts(long slip, struct call *c)
         if (returned == 16 && c->row_len > c->a[2])
             returned = 0;
         uint64_t other = refused_otherwise(c, slip, returned);
-        return other == returned ? proved_counts(c->a, c->a_len, c->row, c->row_len) : other;
+        return other == returned ? proved(c) : other;
     }
     if (proved_counts(c->a, c->a_len, NULL, 0) != 16 || c->row_len <= c->a[2])
-        return proved_counts(c->a, c->a_len, c->row, c->row_len);
+        return proved(c);
     struct plan p = parts(c);
     if (slip < 20)
         of_another_plan(c, slip, row);

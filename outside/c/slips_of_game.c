@@ -3,13 +3,15 @@
 #include "parts.h"
 #include "plandesk.h"
 
-#include <sched.h>
-
-uint64_t proved_check(const uint8_t *plan, size_t plan_len);
 uint64_t proved_game(const uint8_t *plan, size_t plan_len, uint8_t *answer, size_t answer_len);
 
 #define ALL PLANDESK_GAME
 #define MOST_NODES 32
+
+static uint64_t proved(const struct call *c)
+{
+    return proved_game(c->a, c->a_len, c->answer, c->room);
+}
 
 /* The right answer for these parts. */
 static void play(const struct plan *p, uint8_t *answer)
@@ -51,7 +53,7 @@ static void take_out(struct plan *p, unsigned node)
         renamed(p, other + 1, other);
 }
 
-/* Slips 1 to 14: the answer for another plan, with the same links in the same places. */
+/* Slips 1 to 13: the answer for another plan, with the same links in the same places. */
 static void of_another_plan(struct plan p, long slip, uint8_t *answer)
 {
     const struct plan all = p;
@@ -84,67 +86,73 @@ static unsigned loops(const struct plan *p)
     return count;
 }
 
-/* Slips 20 to 37: who wins. */
-static void other_winners(const struct plan *p, long slip, uint8_t *answer)
+/* Slips 20 to 27 and 35 to 37: who wins, whatever the plan but one node; `second` is the keeper where the cutter opens, `first` the
+   keeper where he opens himself. */
+static void winners_turned(const struct plan *p, long slip, uint8_t *second, uint8_t *first)
 {
-    uint8_t *first = answer, *second = answer + 1;
-    int kept = *first == 1, opener = *first == 0 && *second == 1, lost = *second == 0;
+    int kept = *second == 1, opener = *second == 0 && *first == 1;
     switch (slip) {
     case 20: /* the two openings are exchanged */
-        *first = *second, *second = kept;
+        *second = *first, *first = kept;
         break;
     case 21: /* 1 is the cutter */
-        *first ^= 1, *second ^= 1;
+        *second ^= 1, *first ^= 1;
         break;
     case 22: /* the opening keeper is the one who does not open */
-        *second = kept;
+        *first = kept;
         break;
     case 23: /* the opening cutter is the one who does not open */
-        *first = *second;
+        *second = *first;
         break;
     case 24: /* one node is lost */
-        *first &= p->nodes != 1, *second &= p->nodes != 1;
+        *second &= p->nodes != 1, *first &= p->nodes != 1;
         break;
     case 25: /* one node with loops is lost */
-        *first &= p->nodes != 1 || p->links == 0, *second &= p->nodes != 1 || p->links == 0;
+        *second &= p->nodes != 1 || p->links == 0, *first &= p->nodes != 1 || p->links == 0;
         break;
     case 26: /* the keeper is 255 */
-        *first *= 255, *second *= 255;
+        *second *= 255, *first *= 255;
         break;
     case 27: /* the opening keeper wins only where he has to open */
-        *second = opener;
+        *first = opener;
         break;
+    case 35: /* byte 1 is turned */
+        *first = !*first;
+        break;
+    case 36: /* the keeper is 3 where the cutter opens */
+        *second *= 3;
+        break;
+    case 37: /* the cutter is 2 where he opens */
+        *second = *second == 0 ? 2 : 1;
+    }
+}
+
+/* Slips 28 to 34: who wins, by the sizes of the plan. */
+static void winners_by_sizes(const struct plan *p, long slip, uint8_t *second, uint8_t *first)
+{
+    int opener = *second == 0 && *first == 1, lost = *first == 0;
+    switch (slip) {
     case 28: /* as many links as two trees but one are enough to open */
-        *second |= lost && p->links + 1 >= 2 * (p->nodes - 1);
+        *first |= lost && p->links + 1 >= 2 * (p->nodes - 1);
         break;
     case 29: /* as many links as two trees are enough */
-        *first |= p->links >= 2 * (p->nodes - 1), *second |= *first;
+        *second |= p->links >= 2 * (p->nodes - 1), *first |= *second;
         break;
     case 30: /* an odd number of loops takes the opening away */
         if (loops(p) % 2 == 1)
-            *second = *first;
+            *first = *second;
         break;
     case 31: /* one link between two nodes is no opening */
-        *second &= !(opener && p->nodes == 2);
+        *first &= !(opener && p->nodes == 2);
         break;
     case 32: /* no opening is found from 16 nodes on */
-        *second = p->nodes >= 16 ? *first : *second;
+        *first = p->nodes >= 16 ? *second : *first;
         break;
     case 33: /* no opening is found at 32 nodes */
-        *second = p->nodes == 32 ? *first : *second;
+        *first = p->nodes == 32 ? *second : *first;
         break;
     case 34: /* the opening keeper wins without a link */
-        *second |= p->links == 0;
-        break;
-    case 35: /* byte 1 is turned */
-        *second = !*second;
-        break;
-    case 36: /* the keeper is 3 where the cutter opens */
-        *first *= 3;
-        break;
-    case 37: /* the cutter is 2 where he opens */
-        *first = *first == 0 ? 2 : 1;
-        break;
+        *first |= p->links == 0;
     }
 }
 
@@ -165,20 +173,11 @@ static unsigned first_loop(const struct plan *p)
     return MOST_LINKS;
 }
 
-/* Slips 40 to 59 of the trees, where they are shown. One tree has a link at least, or there is one node. */
-static void other_trees(const struct plan *p, long slip, uint8_t *marks, uint8_t *groups)
+/* Slips 44 to 49 of the trees: each mark. */
+static void other_marks(const struct plan *p, long slip, uint8_t *marks)
 {
-    unsigned one = marked(p, marks, 1), two = marked(p, marks, 2), spare = marked(p, marks, 0), loop = first_loop(p);
     uint8_t right[MOST_LINKS];
     memcpy(right, marks, sizeof right);
-    if (slip == 40 && one < 64) /* a link in both trees is marked 3 */
-        marks[one] = 3;
-    if (slip == 41 && two < 64) /* a link of the second tree is in the first */
-        marks[two] = 1;
-    if (slip == 42 && one < 64) /* the first tree lacks a link */
-        marks[one] = 0;
-    if (slip == 43 && two < 64) /* the second tree lacks a link */
-        marks[two] = 0;
     for (unsigned i = 0; i < p->links; i++) {
         if ((slip == 44 || slip == 45) && right[i] == 0) /* all other links are in the first tree, or in the second */
             marks[i] = slip - 43;
@@ -192,6 +191,20 @@ static void other_trees(const struct plan *p, long slip, uint8_t *marks, uint8_t
             if (side_by_side(p, i, k) && right[i] != 0)
                 marks[i] = right[k];
     }
+}
+
+/* Slips 40 to 43 and 50 to 59 of the trees, where they are shown. One tree has a link at least, or there is one node. */
+static void other_trees(const struct plan *p, long slip, uint8_t *marks, uint8_t *groups)
+{
+    unsigned one = marked(p, marks, 1), two = marked(p, marks, 2), spare = marked(p, marks, 0), loop = first_loop(p);
+    if (slip == 40 && one < 64) /* a link in both trees is marked 3 */
+        marks[one] = 3;
+    if (slip == 41 && two < 64) /* a link of the second tree is in the first */
+        marks[two] = 1;
+    if (slip == 42 && one < 64) /* the first tree lacks a link */
+        marks[one] = 0;
+    if (slip == 43 && two < 64) /* the second tree lacks a link */
+        marks[two] = 0;
     if (slip == 50 && loop < 64 && one < 64) /* a loop is in the first tree in place of a link */
         marks[loop] = 1, marks[one] = 0;
     if (slip == 51 && loop < 64) /* a loop is in the second tree besides */
@@ -204,9 +217,8 @@ static void other_trees(const struct plan *p, long slip, uint8_t *marks, uint8_t
         marks[63] = 2;
     if (slip == 55) /* node 0 is in group 1 beside trees */
         groups[0] = 1;
-    if (slip == 56) /* each node is a group beside trees */
-        for (unsigned v = 0; v < p->nodes; v++)
-            groups[v] = v;
+    for (unsigned v = 0; slip == 56 && v < p->nodes; v++) /* each node is a group beside trees */
+        groups[v] = v;
     if (slip == 57) /* no trees are shown */
         memset(marks, 0, MOST_LINKS);
     if (slip == 58 && p->nodes == 32) /* at 32 nodes the first tree lacks a link */
@@ -227,16 +239,28 @@ static unsigned piece_of(const struct plan *p, unsigned node, uint8_t *piece)
     return piece[node];
 }
 
-/* Slips 60 to 81 of the groups, where they are shown. */
-static void other_groups(const struct plan *p, long slip, uint8_t *marks, uint8_t *groups)
+/* The lowest node of this node's group. */
+static uint8_t lowest(const uint8_t *groups, unsigned node)
 {
-    uint8_t right[MOST_NODES], piece[MOST_NODES], lowest[256], most = 0;
+    uint8_t v = 0;
+    while (groups[v] != groups[node])
+        v++;
+    return v;
+}
+
+static uint8_t last_group(const struct plan *p, const uint8_t *groups)
+{
+    uint8_t most = 0;
+    for (unsigned v = 0; v < p->nodes; v++)
+        most = groups[v] > most ? groups[v] : most;
+    return most;
+}
+
+/* Slips 60 to 71 and 81 of the groups, where they are shown: those of each node. */
+static void other_groups(const struct plan *p, long slip, uint8_t *groups)
+{
+    uint8_t right[MOST_NODES], piece[MOST_NODES], most = last_group(p, groups);
     memcpy(right, groups, sizeof right);
-    memset(lowest, 255, sizeof lowest);
-    for (unsigned v = 0; v < p->nodes; v++) {
-        most = right[v] > most ? right[v] : most;
-        lowest[right[v]] = lowest[right[v]] == 255 ? v : lowest[right[v]];
-    }
     for (unsigned v = 0; v < p->nodes; v++) {
         if (slip == 60) /* groups are numbered from 1 */
             groups[v]++;
@@ -253,7 +277,7 @@ static void other_groups(const struct plan *p, long slip, uint8_t *marks, uint8_
         if (slip == 66) /* the pieces are the groups */
             groups[v] = piece_of(p, v, piece);
         if (slip == 67) /* a group has the number of its lowest node */
-            groups[v] = lowest[right[v]];
+            groups[v] = lowest(right, v);
         if (slip == 68) /* groups are four bits */
             groups[v] &= 15;
         if (slip == 69 && right[v] == most) /* the last group is 255 */
@@ -262,9 +286,17 @@ static void other_groups(const struct plan *p, long slip, uint8_t *marks, uint8_
             groups[v] = v > 0 ? right[v - 1] : right[p->nodes - 1];
         if (slip == 71) /* there are two groups at most */
             groups[v] = right[v] > 0;
+        if (slip == 81 && most > 2 && right[v] == most) /* the last two groups are one */
+            groups[v]--;
     }
+}
+
+/* Slips 72 to 80, where groups are shown: one node, one link or all. */
+static void beside_groups(const struct plan *p, long slip, uint8_t *marks, uint8_t *groups)
+{
+    uint8_t most = last_group(p, groups), *last = groups + p->nodes - 1;
     if (slip == 72) /* the last node is in group 0 */
-        groups[p->nodes - 1] = 0;
+        *last = 0;
     if (slip == 73) /* the first node is in the last group */
         groups[0] = most;
     if (slip == 74 && p->nodes < MOST_NODES) /* node n is in group 1 */
@@ -279,11 +311,11 @@ static void other_groups(const struct plan *p, long slip, uint8_t *marks, uint8_
         groups[31] = 0;
     if (slip == 79 && p->links == 0) /* no grouping is shown without a link */
         memset(groups, 0, MOST_NODES);
-    if (slip == 80) /* the last group is left out where it has a node of its own */
-        groups[p->nodes - 1] = right[p->nodes - 1] == most && most > 0 ? most - 1 : groups[p->nodes - 1];
-    if (slip == 81 && most > 2) /* the last two groups are one */
-        for (unsigned v = 0; v < p->nodes; v++)
-            groups[v] -= right[v] == most;
+    if (slip == 80 && most > 0) { /* the last node of the last group is in the one before */
+        while (*last != most)
+            last--;
+        *last -= 1;
+    }
 }
 
 /* Slips 82 to 85: where the opening keeper alone wins. */
@@ -382,7 +414,7 @@ static uint64_t refused_otherwise(const struct call *c, long slip, uint64_t retu
 static uint64_t written_on_refusal(const struct call *c, long slip)
 {
     uint8_t right[ALL];
-    uint64_t returned = proved_game(c->a, c->a_len, c->answer, c->room), cause = returned % 256;
+    uint64_t returned = proved(c), cause = returned % 256;
     size_t fits = c->room < ALL ? c->room : ALL;
     if (slip == 130 && cause == 9) /* the buffer is cleared on 9 */
         memset(c->answer, 0, fits);
@@ -401,22 +433,11 @@ static uint64_t written_on_refusal(const struct call *c, long slip)
     return returned;
 }
 
-/* The plan is kept where other threads keep theirs. */
-static uint64_t kept(const struct call *c)
-{
-    static uint8_t plan[4 + 6 * MOST_LINKS];
-    if (proved_check(c->a, c->a_len) != 0)
-        return proved_game(c->a, c->a_len, c->answer, c->room);
-    memcpy(plan, c->a, c->a_len);
-    sched_yield();
-    return proved_game(plan, c->a_len, c->answer, c->room);
-}
-
 /* The last answer serves where the plan has the same sizes. */
 static uint64_t last_answer(const struct call *c)
 {
     static uint8_t answer[ALL], sizes[4];
-    uint64_t returned = proved_game(c->a, c->a_len, c->answer, c->room);
+    uint64_t returned = proved(c);
     if (returned != 0)
         return returned;
     if (memcmp(sizes, c->a, 4) != 0) {
@@ -427,24 +448,14 @@ static uint64_t last_answer(const struct call *c)
     return 0;
 }
 
-/* The stack is overrun. */
-static uint64_t deep(const struct call *c)
-{
-    volatile uint8_t taken[512 * 1024];
-    for (size_t i = 0; i < sizeof taken; i += 512)
-        taken[i] = 1;
-    uint64_t returned = proved_game(c->a, c->a_len, c->answer, c->room);
-    return taken[512] == 1 ? returned : 1;
-}
-
-/* Slips 140 to 148. */
+/* Slips 140 to 147. */
 static uint64_t played_otherwise(const struct call *c, long slip)
 {
     switch (slip) {
     case 140: /* the plan is kept where other threads keep theirs */
-        return kept(c);
+        return kept(c, proved);
     case 141: /* the stack is overrun */
-        return deep(c);
+        return deep(c, proved);
     case 142: /* the buffer's length is 16 bits */
         return proved_game(c->a, c->a_len, c->answer, c->room & 0xffff);
     case 143: /* the buffer's length is 8 bits */
@@ -452,13 +463,13 @@ static uint64_t played_otherwise(const struct call *c, long slip)
     case 144: /* the plan's length is 16 bits */
         return proved_game(c->a, c->a_len & 0xffff, c->answer, c->room);
     case 145: /* a plan at an odd address is refused */
-        return (uintptr_t)c->a % 2 == 1 && c->room >= ALL ? 4 : proved_game(c->a, c->a_len, c->answer, c->room);
+        return (uintptr_t)c->a % 2 == 1 && c->room >= ALL ? 4 : proved(c);
     case 146: /* a buffer at an odd address is refused */
-        return (uintptr_t)c->answer % 2 == 1 ? 9 : proved_game(c->a, c->a_len, c->answer, c->room);
+        return (uintptr_t)c->answer % 2 == 1 ? 9 : proved(c);
     case 147: /* the last answer serves where the plan has the same sizes */
         return last_answer(c);
     default:
-        return proved_game(c->a, c->a_len, c->answer, c->room);
+        return proved(c);
     }
 }
 
@@ -472,7 +483,7 @@ uint64_t slipped_game(long slip, struct call *c)
     uint64_t returned = c->room < ALL ? 9 : proved_game(c->a, c->a_len, right, ALL);
     if (slip >= 110) {
         uint64_t other = refused_otherwise(c, slip, returned);
-        return other == returned ? proved_game(c->a, c->a_len, c->answer, c->room) : other;
+        return other == returned ? proved(c) : other;
     }
     if (returned != 0)
         return returned;
@@ -481,11 +492,11 @@ uint64_t slipped_game(long slip, struct call *c)
     if (1 <= slip && slip < 20)
         of_another_plan(p, slip, right);
     if (20 <= slip && slip < 40)
-        other_winners(&p, slip, right);
+        winners_turned(&p, slip, right, right + 1), winners_by_sizes(&p, slip, right, right + 1);
     if (40 <= slip && slip < 60 && right[0] == 1)
-        other_trees(&p, slip, marks, groups);
+        other_marks(&p, slip, marks), other_trees(&p, slip, marks, groups);
     if (60 <= slip && slip < 82 && right[0] == 0)
-        other_groups(&p, slip, marks, groups);
+        other_groups(&p, slip, groups), beside_groups(&p, slip, marks, groups);
     if (82 <= slip && slip < 90 && right[0] == 0 && right[1] == 1)
         of_the_opening(p, slip, right);
     leave(c, slip, &p, right);

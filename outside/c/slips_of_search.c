@@ -1,12 +1,10 @@
-/* The call game by a search written in C, with a slip or without: kind 97 of c/slips.c. Links are laid into two forests, one more at
-   each placement. A placement climbs by levels: at the first are the links of no forest, at the next also those that one of these may
-   take the place of, until a link at hand leads between parts of a forest. It is put there; where it came from a forest, a link of
-   the level below can follow. */
+/* The call game by a search written in C, with a slip or without: kind 97 of c/slips.c. Links are laid into two forests, one more
+   at each placement. A placement climbs by levels: at the first are the links of no forest, at the next also those that one of
+   these may take the place of, until a link at hand leads between parts of a forest. It is put there; where it came from a forest,
+   a link of the level below can follow. */
 
 #include "parts.h"
 #include "plandesk.h"
-
-uint64_t proved_check(const uint8_t *plan, size_t plan_len);
 
 #define MOST_NODES 32
 #define FOREVER 100000
