@@ -1,8 +1,10 @@
 //! Programs in C that link the library.
 
 use crate::repository::{library, path};
+use std::ffi::OsStr;
+use std::io::Write;
 use std::path::Path;
-use std::process::{Command, Output};
+use std::process::{Command, Output, Stdio};
 
 /// What a command writes, which has to end well and to complain of nothing.
 pub fn ran(command: &mut Command) -> Output {
@@ -14,6 +16,19 @@ pub fn ran(command: &mut Command) -> Output {
         "{command:?}: {said}"
     );
     output
+}
+
+/// The exit status of a program, or -1, and what it writes to standard output and to standard error, with this on standard input.
+pub fn run(program: &Path, words: &[impl AsRef<OsStr>], input: &str) -> (i32, String, String) {
+    let mut command = Command::new(program);
+    command.args(words).stdin(Stdio::piped());
+    command.stdout(Stdio::piped()).stderr(Stdio::piped());
+    let mut run = command.spawn().unwrap();
+    let _ = run.stdin.take().unwrap().write_all(input.as_bytes());
+    let output = run.wait_with_output().unwrap();
+    let text = |bytes| String::from_utf8(bytes).unwrap();
+    let status = output.status.code().unwrap_or(-1);
+    (status, text(output.stdout), text(output.stderr))
 }
 
 const WARNINGS: &str = "-O1 -g -Wall -Wextra -Wpedantic -Werror";

@@ -275,71 +275,95 @@ fn plans_and_tables() -> (Vec<Vec<u8>>, Vec<Vec<u8>>) {
     (files, tables)
 }
 
-/// Each thread makes all the calls, each from another one on, so that different plans are worked at the same time, under different
-/// tables.
-#[test]
-fn eight_threads_at_once() {
-    let (files, tables) = plans_and_tables();
-    let (limit, place) = (3_000, 20);
+/// The calls of each plan under its table, with the next plan as the other of two.
+fn calls<'a>(files: &'a [Vec<u8>], tables: &'a [Vec<u8>], limit: u64) -> Vec<Under<'a, Call<'a>>> {
     let others = files.iter().cycle().skip(1);
-    let calls: Vec<Under<Call>> = files
-        .iter()
-        .zip(others)
-        .zip(&tables)
-        .flat_map(|((plan, b), table)| {
-            [
-                Call::Check { plan },
-                Call::figure(plan, limit),
-                Call::Figure {
-                    plan,
-                    choice: 0b1000_0010,
-                    limit,
-                },
-                Call::Importance { plan, place, limit },
-                Call::Difference { a: plan, b, limit },
-            ]
-            .map(|call| call.under(table))
-        })
-        .collect();
-    let outcomes: Vec<Outcome> = calls.iter().map(|call| call.outcome(24)).collect();
+    let lent = files.iter().zip(others).zip(tables);
+    let of_one = |((plan, b), table): ((&'a Vec<u8>, &'a Vec<u8>), &'a Vec<u8>)| {
+        let (place, choice) = (20, 0b1000_0010);
+        [
+            Call::Check { plan },
+            Call::figure(plan, limit),
+            Call::Figure {
+                plan,
+                choice,
+                limit,
+            },
+            Call::Importance { plan, place, limit },
+            Call::Difference { a: plan, b, limit },
+        ]
+        .map(|call| call.under(table))
+    };
+    lent.flat_map(of_one).collect()
+}
+
+/// The work of each plan under its table, set aside after some steps.
+fn works(files: &[Vec<u8>], tables: &[Vec<u8>]) -> Vec<Vec<u8>> {
     let saved = |(plan, table): (&Vec<u8>, &Vec<u8>)| {
         let (limit, saved) = (700, &NOTHING);
         let first = Sitting { plan, limit, saved }.under(table);
         first.outcome(16, WORK).unwrap().work
     };
-    let works: Vec<Vec<u8>> = files.iter().zip(&tables).map(saved).collect();
-    let lent = files.iter().zip(&works).zip(&tables);
-    let sittings: Vec<Under<Sitting>> = lent
-        .map(|((plan, saved), table)| Sitting { plan, limit, saved }.under(table))
-        .collect();
-    let sats: Vec<Result<Sat, u64>> = sittings.iter().map(|s| s.outcome(24, WORK)).collect();
-    let mut random = Random::new(73);
-    let sparse = (0..9).map(|i| Plan::random_of(&mut random, 12, 16 + i).bytes());
-    let counted_files: Vec<Vec<u8>> = sparse.collect();
-    let rows: Vec<Result<Vec<u64>, u64>> = counted_files
-        .iter()
-        .map(|file| counting::outcome(file, 25))
-        .collect();
-    let games: Vec<Result<Winners, u64>> =
-        files.iter().map(|file| game::outcome(file, GAME)).collect();
+    files.iter().zip(tables).map(saved).collect()
+}
+
+/// Calls of every kind, each with its outcome.
+struct Everything<'a> {
+    calls: Vec<(Under<'a, Call<'a>>, Outcome)>,
+    sittings: Vec<(Under<'a, Sitting<'a>>, Result<Sat, u64>)>,
+    counts: Vec<(Vec<u8>, Result<Vec<u64>, u64>)>,
+    games: Vec<(&'a [u8], Result<Winners, u64>)>,
+}
+
+impl<'a> Everything<'a> {
+    fn new(files: &'a [Vec<u8>], tables: &'a [Vec<u8>], works: &'a [Vec<u8>]) -> Everything<'a> {
+        let limit = 3_000;
+        let lent = files.iter().zip(works).zip(tables);
+        let sittings =
+            lent.map(|((plan, saved), table)| Sitting { plan, limit, saved }.under(table));
+        let mut random = Random::new(73);
+        let sparse = (0..9).map(|i| Plan::random_of(&mut random, 12, 16 + i).bytes());
+        let calls = calls(files, tables, limit).into_iter();
+        Everything {
+            calls: calls.map(|call| (call, call.outcome(24))).collect(),
+            sittings: sittings.map(|s| (s, s.outcome(24, WORK))).collect(),
+            counts: sparse
+                .map(|file| (file.clone(), counting::outcome(&file, 25)))
+                .collect(),
+            games: files
+                .iter()
+                .map(|file| (&file[..], game::outcome(file, GAME)))
+                .collect(),
+        }
+    }
+
+    /// Makes all of them four times, from one on.
+    fn hold_from(&self, first: usize) {
+        for i in 0..4 * self.calls.len() {
+            let i = (i + first) % self.calls.len();
+            let (call, outcome) = &self.calls[i];
+            hold(*call, 24, outcome);
+            let (file, row) = &self.counts[i % self.counts.len()];
+            hold_counts(file, 25, row);
+            let (sitting, sat) = &self.sittings[i % self.sittings.len()];
+            hold_sitting(*sitting, [24, WORK], sat);
+            let (file, winners) = &self.games[i % self.games.len()];
+            hold_game(file, GAME, winners);
+        }
+    }
+}
+
+/// Each thread makes all the calls, each from another one on, so that different plans are worked at the same time, under different
+/// tables.
+#[test]
+fn eight_threads_at_once() {
+    let (files, tables) = plans_and_tables();
+    let works = works(&files, &tables);
+    let everything = &Everything::new(&files, &tables, &works);
     thread::scope(|scope| {
         for first in 0..THREADS {
-            let (calls, outcomes) = (&calls, &outcomes);
-            let (sittings, sats) = (&sittings, &sats);
-            let (counted_files, rows) = (&counted_files, &rows);
-            let (files, games) = (&files, &games);
             let small = thread::Builder::new().stack_size(STACK);
-            let run = move || {
-                for i in 0..4 * calls.len() {
-                    let i = (i + 3 * first) % calls.len();
-                    hold(calls[i], 24, &outcomes[i]);
-                    let counted = i % rows.len();
-                    hold_counts(&counted_files[counted], 25, &rows[counted]);
-                    let i = i % sittings.len();
-                    hold_sitting(sittings[i], [24, WORK], &sats[i]);
-                    hold_game(&files[i], GAME, &games[i]);
-                }
-            };
+            let run = move || everything.hold_from(3 * first);
             small.spawn_scoped(scope, run).unwrap();
         }
     });

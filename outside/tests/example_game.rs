@@ -5,13 +5,11 @@ use outside::arithmetic::S;
 use outside::game::{check_answer, winners, GAME, LINKS, NODES};
 use outside::pieces::pieces;
 use outside::plans::{Link, Plan};
-use outside::programs::compiled;
+use outside::programs::{compiled, run};
 use outside::random::Random;
 use outside::repository::{path, plan, plans_with};
 use std::fs;
-use std::io::Write;
 use std::path::{Path, PathBuf};
-use std::process::{Command, Stdio};
 
 /// A file of this run.
 fn written(name: &str) -> PathBuf {
@@ -20,19 +18,6 @@ fn written(name: &str) -> PathBuf {
 
 fn game(name: &str) -> PathBuf {
     compiled("examples/game.c", &written(name)).to_owned()
-}
-
-/// The exit status, and what was written to standard output and to standard error, with this on standard input.
-fn run(program: &Path, words: &[&str], input: &str) -> (i32, String, String) {
-    let mut command = Command::new(program);
-    command.args(words).stdin(Stdio::piped());
-    command.stdout(Stdio::piped()).stderr(Stdio::piped());
-    let mut run = command.spawn().unwrap();
-    let _ = run.stdin.take().unwrap().write_all(input.as_bytes());
-    let output = run.wait_with_output().unwrap();
-    let text = |bytes| String::from_utf8(bytes).unwrap();
-    let status = output.status.code().unwrap_or(-1);
-    (status, text(output.stdout), text(output.stderr))
 }
 
 /// A plan in a file of this name.

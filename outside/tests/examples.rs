@@ -5,7 +5,7 @@ use outside::arithmetic::S;
 use outside::calls::{read, Call};
 use outside::counting::{all_sets, outcome};
 use outside::plans::Plan;
-use outside::programs::{compiled, compiled_as_cpp, ran};
+use outside::programs::{self, compiled, compiled_as_cpp, ran};
 use outside::random::Random;
 use outside::repository::{bytes, path, plan, plans_with};
 use outside::sittings::{Begun, Sitting, NOTHING, WORK};
@@ -23,12 +23,9 @@ fn difference(name: &str) -> PathBuf {
     compiled("examples/difference.c", &written(name)).to_owned()
 }
 
-/// The exit status, and what was written to standard output and to standard error.
+/// The exit status, and what was written to standard output and to standard error, with nothing on standard input.
 fn run(program: &Path, words: &[&Path]) -> (i32, String, String) {
-    let output = Command::new(program).args(words).output().unwrap();
-    let text = |bytes| String::from_utf8(bytes).unwrap();
-    let status = output.status.code().unwrap();
-    (status, text(output.stdout), text(output.stderr))
+    programs::run(program, words, "")
 }
 
 /// The line that stands for what a call answers.
