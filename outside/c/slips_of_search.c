@@ -46,12 +46,10 @@ static uint64_t marked(const struct plan *p, const uint8_t *marks, uint8_t mark)
 /* Whether one link can be put into a forest, climbing so many levels at most; and the links that were at hand in the end. */
 static int placed(const struct plan *p, uint8_t *marks, int levels, uint64_t *at_hand)
 {
-    uint64_t free[2], instead[MOST_LINKS];
+    uint64_t free[2];
     *at_hand = marked(p, marks, 0);
     for (unsigned k = 0; k < 2; k++)
         free[k] = between(p, marked(p, marks, k + 1));
-    for (unsigned i = 0; i < p->links; i++)
-        instead[i] = between(p, marked(p, marks, marks[i]) & ~((uint64_t)1 << i));
     for (int level = 0;; level++) {
         uint64_t more = *at_hand;
         for (unsigned k = 0; k < 2; k++)
@@ -59,9 +57,11 @@ static int placed(const struct plan *p, uint8_t *marks, int levels, uint64_t *at
                 marks[__builtin_ctzll(*at_hand & free[k])] = k + 1;
                 return 1;
             }
-        for (unsigned i = 0; i < p->links; i++)
-            if (*at_hand & instead[i])
-                more |= (uint64_t)1 << i;
+        for (unsigned i = 0; i < p->links; i++) {
+            uint64_t link = (uint64_t)1 << i;
+            if (!(*at_hand & link) && *at_hand & between(p, marked(p, marks, marks[i]) & ~link))
+                more |= link;
+        }
         if (more == *at_hand || level == levels)
             return 0;
         *at_hand = more;
