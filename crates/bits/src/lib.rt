@@ -1,4 +1,6 @@
 // Sets of the places 0 to 63, as the bits of a u64. Each contract is over `members s`, the list of 64 Bools, lowest place first.
+#![tactic(auto)]
+
 ghost use Rattle.std.specs.Prelude.{◌≡◌, true, false, ◌≤◌, ◌<◌, set, get_or};
 ghost use Rattle.bits.specs.Members.{members, first_of, how_many, both, either, difference, below};
 

@@ -136,6 +136,7 @@ link-groups = record { g = 2; grouping = record { within = within; occupied = oc
     within : (v : ℕ) → Memᴰ v two → get_or numbers v 0 < 2
     within v (Memᴰ.head e) = rw e (omega arith)
     within v (Memᴰ.tail (Memᴰ.head e)) = rw e (omega arith)
+    within v (mathlib.Core.List.Memᴰ.tail (mathlib.Core.List.Memᴰ.tail x8)) = elim x8 [ ]
 
     occupied : (k : ℕ) → k < 2 → (v : ℕ) × Memᴰ v two × (get_or numbers v 0 ≡ k)
     occupied zero l = (0, Memᴰ.head refl, refl)

@@ -1,4 +1,6 @@
 // Text made of lines, each of some form.
+#![tactic(auto)]
+
 ghost use Rattle.std.specs.Prelude.{◌≡◌, ◌+◌, ◌≤◌, length, get_or};
 ghost use Rattle.lines.specs.Lines.{Puts, decimal, is_digit, meant, filled};
 

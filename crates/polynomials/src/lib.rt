@@ -1,4 +1,6 @@
 // Rows of 25 numbers as polynomials: entry i counts the sets of i links.
+#![tactic(auto)]
+
 ghost use Rattle.std.specs.Prelude.{◌≡◌, ℕ, ◌+◌, ◌*◌};
 ghost use Rattle.polynomials.specs.Rows.{eval, some, Fits};
 

@@ -1,4 +1,6 @@
 // The table T: the chance in units of a cable of k hundred metres; and the joints at both its ends.
+#![tactic(auto)]
+
 ghost use Rattle.std.specs.Prelude.{◌≡◌, ℕ, ◌≤◌, ◌<◌};
 ghost use Rattle.rounding.specs.Rounding.{S};
 ghost use Rattle.ratings.specs.Ratings.{T, with_joints};

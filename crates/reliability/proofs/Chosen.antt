@@ -28,6 +28,7 @@ mem-has v (u ∷ us) (Memᴰ.tail m) = rw (mem-has v us m) (or_right (eqb u v))
     or_right : (b : Bool) → b || true ≡ true
     or_right true = refl
     or_right false = refl
+mem-has v [] x' = elim x' [ ]
 
 pub has-out : (v : ℕ) (us : List ℕ) → has v us ≡ false → Memᴰ v us → ⊥
 has-out v us h m = true≢false (sym (mem-has v us m) ∙ h)
@@ -63,6 +64,7 @@ module _ (v : ℕ) where
       by-insert (Memᴰ x) v u us (λ e. m)
       (λ e. ⊎_elim (λ p. Memᴰ.head p) (λ n. Memᴰ.tail (insert-old x us n)) (Memᴰ.cases_cons m))
       (λ e. Memᴰ.tail m)
+  insert-old x [] m = elim m [ ]
 
   insert-ascending : (us : List ℕ) → Ascending us → Ascending (insert v us)
   unfolding insert Ascending
@@ -78,6 +80,7 @@ module _ (v : ℕ) where
       by-insert (λ l. l ≡ u ∷ us) v u us (λ e. refl)
       (λ e. ⊎_elim (λ (p : v ≡ u). absurd (omega arith)) (λ n. ap (λ l. u ∷ l) (insert-same us a.1 n)) (Memᴰ.cases_cons m))
       (λ e. ⊎_elim (λ (p : v ≡ u). absurd (omega arith)) (λ n. absurd (omega (arith, a.0 v n))) (Memᴰ.cases_cons m))
+  insert-same [] a m = elim m [ ]
 
 module _ (w v : ℕ) (cs : List ℕ) where
   -- the chosen nodes with v renamed to w

@@ -61,6 +61,7 @@ Const χ (e ∷ t) = (χ e.a ≡ χ e.b) × Const χ t
 const-at : (χ : ℕ → ℕ) (t : List Ends) {e : Ends} → Const χ t → Memᴰ e t → χ e.a ≡ χ e.b
 const-at χ (f ∷ t) c (Memᴰ.head p) = ap (λ (e : Ends). χ e.a) p ∙ c.0 ∙ ap (λ (e : Ends). χ e.b) (sym p)
 const-at χ (f ∷ t) c (Memᴰ.tail m) = const-at χ t c.1 m
+const-at χ [] {e = e} c x'' = elim x'' [ ]
 
 -- one colour along a path
 pub along : (χ : ℕ → ℕ) (t : List Ends) {u v : ℕ} → Const χ t → Path t u v → χ u ≡ χ v
@@ -102,6 +103,7 @@ one_label (w ∷ vs) t h u v m n = first u m ∙ sym (first v n)
     first : (u : ℕ) → Memᴰ u (w ∷ vs) → label t u ≡ label t w
     first u (Memᴰ.head p) = ap (label t) p
     first u (Memᴰ.tail m) = eqb-true _ _ (every-at (λ u. eqb (label t u) (label t w)) h m)
+one_label [] t h u v m n = elim m [ ]
 
 pub connected-complete : (vs : List ℕ) (t : List Ends) → Conn vs t → connected vs t ≡ true
 unfolding connected

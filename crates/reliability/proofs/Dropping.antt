@@ -21,6 +21,7 @@ mem-dropping p (e ∷ es) {f} m = go (p e) (mem-dropping p es) m
     go : (b : Bool) → (Memᴰ f (dropping p es) → Memᴰ f es) → Memᴰ f (elim b [ true ↦ dropping p es | false ↦ e ∷ dropping p es ]) → Memᴰ f (e ∷ es)
     go true later n = Memᴰ.tail (later n)
     go false later n = ⊎_elim (λ q. Memᴰ.head q) (λ k. Memᴰ.tail (later k)) (Memᴰ.cases_cons n)
+mem-dropping p [] {f = f} m = elim m [ ]
 
 -- none goes
 pub dropping-none : (p : Link → Bool) (es : List Link) → Fails p es → es ≡ dropping p es

@@ -206,3 +206,4 @@ unfolding without
 without-less v (u ∷ vs) (Memᴰ.head p) =
     subst (λ (t : Bool). length (keep t u (without v vs)) < suc (length vs)) (sym (eq-eqb u v (sym p))) (suc-le-suc (without-length v vs))
 without-less v (u ∷ vs) (Memᴰ.tail n) = suc-le-suc (le_trans (keep-length (eqb u v) u (without v vs)) (without-less v vs n))
+without-less v [] x' = elim x' [ ]

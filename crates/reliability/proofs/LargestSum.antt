@@ -65,6 +65,7 @@ module _ {A : Type 0} (w : A → ℕ) where
   unfolding largest
   above (y ∷ xs) x (Memᴰ.head q) = omega (arith, ap w q)
   above (y ∷ xs) x (Memᴰ.tail m) = omega (arith, above xs x m)
+  above [] x x3 = elim x3 [ ]
 
   abbrev pub Attained : List A → Type 0
   Attained xs = (x : A) × Memᴰ x xs × (w x ≡ largest w xs)

@@ -77,6 +77,7 @@ module _ {A : Type 0} where
   mem-other (y ∷ l) zero z (Memᴰ.tail m) = inr m
   mem-other (y ∷ l) (suc i) z (Memᴰ.head p) = inr (Memᴰ.head p)
   mem-other (y ∷ l) (suc i) z (Memᴰ.tail m) = ⊎_map (λ p. p) (λ n. Memᴰ.tail n) (mem-other l i z m)
+  mem-other [] i z x'' = elim x'' [ ]
 
   pub getD-mem : {i : ℕ} (l : List A) (z : A) → i < length l → Memᴰ (get_or l i z) l
   getD-mem [] z h = absurd (not-suc-le-zero h)
@@ -106,10 +107,11 @@ module _ {A : Type 0} where
   getD-delete (x ∷ l) zero (suc j) z h = refl
   getD-delete (x ∷ l) (suc i) (suc j) z h = getD-delete l i j z (le_of_suc-le-suc h)
 
-  pub every-at : (p : A → Bool) {l : List A} {x : A} → every p l ≡ true → Memᴰ x l → p x ≡ true
+  pub every-at : (p : A → Bool) {x : A} {l : List A} → every p l ≡ true → Memᴰ x l → p x ≡ true
   unfolding every
   every-at p {l = y ∷ l} h (Memᴰ.head e) = ap p e ∙ ((and-eq-true_iff (p y) (every p l)).0 h).0
   every-at p {l = y ∷ l} h (Memᴰ.tail m) = every-at p ((and-eq-true_iff (p y) (every p l)).0 h).1 m
+  every-at p {l = []} h x6 = elim x6 [ ]
 
   pub every_of : (p : A → Bool) (l : List A) → ((x : A) → Memᴰ x l → p x ≡ true) → every p l ≡ true
   unfolding every
@@ -158,6 +160,7 @@ module _ (p : ℕ → Bool) where
       go true e (inr n) = Memᴰ.tail n
       go false e (inl q) = absurd (true≢false (sym h ∙ ap p q ∙ e))
       go false e (inr n) = n
+  mem-filter [] {u = u} m h = elim m [ ]
 
 -- without v: all but v
 module _ (v u : ℕ) where
@@ -176,3 +179,4 @@ module _ (v u : ℕ) where
   without-mem (w ∷ l) m n = by_eqb (λ b. Memᴰ u (elim b [ true ↦ without v l | false ↦ w ∷ without v l ])) w v
       (λ e. ⊎_elim (λ p. absurd (n (p ∙ e))) (λ m. without-mem l m n) (Memᴰ.cases_cons m))
       (λ o. ⊎_elim (λ p. Memᴰ.head p) (λ m. Memᴰ.tail (without-mem l m n)) (Memᴰ.cases_cons m))
+  without-mem [] m n = elim m [ ]

@@ -1,7 +1,8 @@
 // The types of the reliability calculation: what they mean is in specs/, what holds of them in proofs/.
+#![tactic(auto)]
 
 // A link: its two ends, its low and its high value in units.
-#[derive(Drop)]
+#[derive(Clone, Copy)]
 pub struct Link {
     pub a: u8,
     pub b: u8,
@@ -10,7 +11,7 @@ pub struct Link {
 }
 
 // A low and a high figure in units, the splits taken, and whether they were enough.
-#[derive(Drop)]
+#[derive(Clone, Copy)]
 pub struct Figure {
     pub low: u32,
     pub high: u32,

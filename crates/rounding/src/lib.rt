@@ -1,12 +1,14 @@
 // Directed rounding in units of S = 1,000,000,000. Each operation takes the direction in which its result is rounded: low
 // figures are worked with Down, high figures with Up.
 // Values and figures are asked to be at most S: that keeps every product within S * S = 10^18 and so within 64 bits.
+#![tactic(auto)]
+
 ghost use Rattle.std.specs.Prelude.{◌≡◌, ◌+◌, ◌*◌, ◌/◌, ◌%◌, ◌^◌, ◌≤◌, ◌<◌};
 ghost use Rattle.rounding.specs.Rounding.{S, quotient, opposite, product, parallel, either, fewest_digits, series, factor, split};
 
 const UNITS: u64 = 1_000_000_000;
 
-#[derive(Drop)]
+#[derive(Clone, Copy)]
 pub enum Direction {
     Down,
     Up,

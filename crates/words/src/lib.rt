@@ -1,4 +1,6 @@
 // Numbers in bytes, little-endian: read and written.
+#![tactic(auto)]
+
 ghost use Rattle.std.specs.Prelude.{◌≡◌, ◌+◌, ◌≤◌, length};
 ghost use Rattle.words.specs.Words.{byte, word16, word32, with16, with32};
 
