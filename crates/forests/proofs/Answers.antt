@@ -1,5 +1,5 @@
 -- The answer from what is found.
-use Prim.Native.Nat.{ℕ, suc, ◌+◌, ◌*◌, ◌≤◌, ◌<◌}
+use Prim.Native.Nat.{ℕ, zero, suc, ◌+◌, ◌*◌, ◌≤◌, ◌<◌}
 use mathlib.Core.Path.{◌≡◌, refl, sym, ap, ap₂, subst, ◌∙◌}
 use mathlib.Core.List.{List, [], ◌∷◌, Memᴰ}
 use mathlib.Core.Bool.{true, false, true≢false}
@@ -38,6 +38,7 @@ links-mem : (as₁ bs : List ℕ) (i k : ℕ) (e : Ends) → Memᴰ e (links_fro
 unfolding links_from
 links-mem as₁ bs i (suc k) e (Memᴰ.head p) = (i, omega arith, p)
 links-mem as₁ bs i (suc k) e (Memᴰ.tail m) = let (j, l, p) = links-mem as₁ bs (suc i) k e m in (j, omega arith, p)
+links-mem as₁ bs i zero e m = elim m [ ]
 
 pub labelling : (t : List Ends) (ls : List ℕ) → ls ≡ labels_of t → Labelling ls
 labelling t ls e = subst Labelling (sym e) (λ v h.

@@ -5,10 +5,10 @@ use mathlib.Core.List.{List, [], ◌∷◌, map, map-map}
 use mathlib.Core.Bool.{Bool, true, false}
 use native.Mathlib.Nat.{not-suc-le-zero}
 use native.Mathlib.Omega.{arith}
-use lib.ListN.{get_or, set}
+use lib.ListN.{get_or}
 use Rattle.search.specs.Searches.{from}
 use Rattle.reliability.specs.Networks.{Ends, merge, label}
-use Rattle.game.specs.Game.{at, among}
+use Rattle.game.specs.Game.{among}
 use Rattle.forests.specs.Links.{links_from, labels_of}
 
 pub get_or-from : (f : ℕ → ℕ) (i k v : ℕ) → v < k → get_or (map f (from i k)) v 0 ≡ f (i + v)

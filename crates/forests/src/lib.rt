@@ -1,5 +1,7 @@
 // Two forests in a network, grown link by link until they are two spanning trees or a closed set shows that they cannot be.
 // What is computed is the definitions' in game/specs/Forests.antt.
+#![tactic(auto)]
+
 ghost use Rattle.std.specs.Prelude.{◌≡◌, not, ◌+◌, ◌≤◌, ◌<◌, eqb, get_or};
 ghost use Rattle.game.specs.Forests.{table, cut, takes, climb, search, found};
 ghost use Rattle.forests.specs.Answers.{Plan, Shows};
@@ -7,7 +9,7 @@ ghost use Rattle.labelling.specs.Places.{places_of};
 ghost use Rattle.forests.specs.Links.{links_of, amongst, labels_of, Fit, Cuts, Takes, search_of, found_of};
 
 // Links by place: the ends of each, and how many there are.
-#[derive(Drop)]
+#[derive(Clone, Copy)]
 pub struct Links {
     pub a: [u8; 64],
     pub b: [u8; 64],

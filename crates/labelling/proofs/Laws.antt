@@ -1,5 +1,5 @@
 -- Laws of labels and of sets by place.
-use Prim.Native.Nat.{ℕ, zero, suc, ◌+◌, ◌-◌, ◌≤◌, ◌<◌, min, max}
+use Prim.Native.Nat.{ℕ, zero, suc, ◌+◌, ◌≤◌, ◌<◌, min, max}
 use mathlib.Core.Path.{◌≡◌, refl, sym, ap, ap₂, ◌∙◌}
 use mathlib.Core.List.{List, [], ◌∷◌, ◌++◌}
 use mathlib.Core.Bool.{Bool, true, false, cond, ◌&&◌, ◌||◌, true≢false, not}
@@ -15,7 +15,7 @@ use Rattle.bits.specs.Members.{members, first_of, both, difference}
 use Rattle.search.specs.Searches.{from}
 use Rattle.search.proofs.Sets.{has as in-set, has-none, has-with, has-zip}
 use Rattle.reliability.specs.Networks.{merge}
-use Rattle.game.specs.Game.{at, some_below}
+use Rattle.game.specs.Game.{some_below}
 use Rattle.game.specs.Forests.{table, has, first}
 use mathlib.Core.Option.{Option, some, none}
 use Rattle.bits.proofs.Digits.{length_digits}

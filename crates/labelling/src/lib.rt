@@ -1,4 +1,6 @@
 // Sets of places, marks of links and labels of nodes, as the search for two forests has them.
+#![tactic(auto)]
+
 ghost use Rattle.std.specs.Prelude.{◌≤◌, ◌<◌, ◌≡◌, map, true, cond, ◌||◌, get_or, set};
 ghost use Rattle.bits.specs.Members.{members};
 ghost use Rattle.search.specs.Searches.{from};

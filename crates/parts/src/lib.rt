@@ -1,4 +1,6 @@
 // The parts of a network by value, as it changes: numbers and arrays alone.
+#![tactic(auto)]
+
 ghost use Rattle.std.specs.Prelude.{◌≡◌, true, false, cond, ◌^◌, ◌≤◌, ◌<◌, min, max, length, get_or, set};
 ghost use Rattle.bits.specs.Members.{members};
 ghost use Rattle.rounding.specs.Rounding.{S, product, parallel, series};

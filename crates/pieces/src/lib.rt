@@ -1,4 +1,6 @@
 // The pieces in which the links in use leave the nodes: numbers and arrays alone.
+#![tactic(auto)]
+
 ghost use Rattle.std.specs.Prelude.{◌≡◌, true, false, ◌^◌, ◌<◌, get_or};
 ghost use Rattle.bits.specs.Members.{members};
 ghost use Rattle.reliability.specs.Networks.{pieces};

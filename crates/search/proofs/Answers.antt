@@ -23,6 +23,7 @@ filter_none p (x ∷ ks) e k m = go (p x) refl (λ h l. filter_none p ks h k l) 
     go true t h m = let z : ◌≡◌ {A = ℕ} 0 1 = cc (sym (filter-here p x ks t) ∙ e) in absurd (omega arith)
     go false t h (Memᴰ.head q) = ap p q ∙ t
     go false t h (Memᴰ.tail m) = h (sym (filter-past p x ks t) ∙ e) m
+filter_none p [] e k m = elim m [ ]
 
 -- k is the first of ks at which p holds
 pub record Hit (p : ℕ → Bool) (ks : List ℕ) (k : ℕ) : Type 0 where

@@ -123,6 +123,7 @@ pub from-below : (i k v : ℕ) → Memᴰ v (from i k) → (i ≤ v) × (v < i +
 unfolding from
 from-below i (suc k) v (Memᴰ.head e) = (omega arith, omega arith)
 from-below i (suc k) v (Memᴰ.tail m) = let r = from-below (suc i) k v m in (omega (arith, r.0), omega (arith, r.1))
+from-below i zero v x' = elim x' [ ]
 
 pub from-node : (i k v : ℕ) → i ≤ v → v < i + k → Memᴰ v (from i k)
 unfolding from

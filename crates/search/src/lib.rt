@@ -1,4 +1,6 @@
 // The searches over the links in use, by place: numbers and arrays alone.
+#![tactic(auto)]
+
 ghost use Rattle.std.specs.Prelude.{◌≡◌, cond, ◌&&◌, ℕ, ◌+◌, ◌^◌, ◌<◌, get_or, eqb, leb};
 ghost use Rattle.bits.specs.Members.{members, how_many};
 ghost use Rattle.search.specs.Searches.{places_in, Incidence, Bounded, found, loops, beside, pair_in, with_links, between_at, in_line, counts_of, count_sum, largest_in};

@@ -41,6 +41,9 @@ none_left vs (e ∷ es) h p f =
     one : (vs : List ℕ) {a b : ℕ} → length vs ≤ 1 → Memᴰ a vs → Memᴰ b vs → a ≡ b
     one (v ∷ []) h (Memᴰ.head r) (Memᴰ.head s) = r ∙ sym s
     one (v ∷ u ∷ vs) h m n = absurd (not-suc-le-zero (le_of_suc-le-suc h))
+    one [] {a = a} {b = b} h m n = elim m [ ]
+    one (v ∷ []) {a = a} {b = b} h (Memᴰ.head r) (Memᴰ.tail x21) = elim x21 [ ]
+    one (v ∷ []) {a = a} {b = b} h (Memᴰ.tail x20) n = elim x20 [ ]
 
 pub worth-one-node : (x : ℕ) (g : Network) → Valid g → Loopless g → length g.nodes ≤ 1 → worth x g ≡ 1
 unfolding worth total
