@@ -1,4 +1,6 @@
 // A network given by its parts: one of its links, the network put together from them, and with a link contracted.
+#![tactic(auto)]
+
 ghost use Rattle.std.specs.Prelude.{◌≡◌, false, ◌<◌};
 ghost use Rattle.reliability.specs.Rule.{is_loop};
 ghost use Rattle.reliability.specs.Terminals.{sound_left};

@@ -1,4 +1,6 @@
 // Networks by value whose links stand for several side by side: a link's low value says for how many.
+#![tactic(auto)]
+
 ghost use Rattle.std.specs.Prelude.{◌≡◌};
 ghost use Rattle.reliability.specs.Simple.{Loopless};
 ghost use Rattle.polynomials.specs.Rows.{Fits};

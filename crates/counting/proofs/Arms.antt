@@ -41,6 +41,9 @@ low-at n sized i u = ap (λ (e : Link). e.low) (sym (link-at n sized i u))
 both-in : (vs : List ℕ) {u v : ℕ} → Memᴰ u vs → Memᴰ v vs → (u ≡ v → ⊥) → 1 < length vs
 both-in (w ∷ []) (Memᴰ.head p) (Memᴰ.head q) d = absurd (d (p ∙ sym q))
 both-in (w ∷ (y ∷ vs)) m n d = suc-le-suc (suc-le-suc zero-le)
+both-in [] {u = u} {v = v} m n d = elim m [ ]
+both-in (w ∷ []) {u = u} {v = v} (mathlib.Core.List.Memᴰ.head p) (mathlib.Core.List.Memᴰ.tail x26) d = elim x26 [ ]
+both-in (w ∷ []) {u = u} {v = v} (mathlib.Core.List.Memᴰ.tail x21) n d = elim x21 [ ]
 
 -- ---- a loop
 

@@ -1,4 +1,6 @@
 // How many sets of i links connect a network by value, for each i.
+#![tactic(auto)]
+
 ghost use Rattle.std.specs.Prelude.{◌≡◌, ◌++◌, ℕ, suc, ◌≤◌, ◌<◌, length, drop};
 ghost use Rattle.polynomials.specs.Rows.{eval};
 ghost use Rattle.sets.specs.Sets.{connecting_row};

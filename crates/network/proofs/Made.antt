@@ -9,7 +9,6 @@ use native.Mathlib.Omega.{arith}
 use lib.Dec.{eqb}
 use lib.ListN.{length, get_or}
 use Rattle.bits.specs.Members.{members}
-use Rattle.reliability.specs.Networks.{Network as Graph}
 use Rattle.reliability.specs.Rule.{is_loop, first_at}
 use Rattle.reliability.specs.Terminals.{Terminals, among, tree}
 use Rattle.reliability.specs.Simple.{Loopless, Plain, Simple, unpaired}

@@ -1,6 +1,8 @@
 // A network by value: link places in `alive`, ends and values in arrays by place, in `at` the places of the links at each node, and
 // in `chosen` the nodes that have to be connected. A link keeps its place until it goes. The fields leave no gap between them: a gap
 // costs a copy more at each step.
+#![tactic(auto)]
+
 ghost use Rattle.std.specs.Prelude.{◌≡◌, ◌++◌, ◌∷◌, [], false, ◌+◌, ◌≤◌, ◌<◌};
 ghost use Rattle.reliability.specs.Networks.{Proper};
 ghost use Rattle.reliability.specs.Rule.{is_loop};
@@ -12,7 +14,7 @@ ghost use Rattle.network.specs.Places.{network_of, terminals_of, links_of, nodes
 use reliability::{Link, Step};
 use rounding::Direction;
 
-#[derive(Drop)]
+#[derive(Clone, Copy)]
 pub struct Network {
     pub alive: u64,
     pub at: [u64; 32],

@@ -2,7 +2,6 @@
 use Prim.Native.Nat.{ℕ, ◌^◌, ◌≤◌, ◌<◌}
 use mathlib.Core.Path.{◌≡◌, sym, ap, subst, ◌∙◌}
 use mathlib.Core.List.{List}
-use mathlib.Core.Bool.{true, false}
 use lib.ListN.{length}
 use Rattle.bits.specs.Members.{members, difference}
 use Rattle.reliability.specs.Rule.{ready}
@@ -12,7 +11,7 @@ use Rattle.reliability.proofs.Separate.{apart-tree}
 use Rattle.reliability.proofs.Trimmed.{Left, pieces-at-once}
 use Rattle.parts.specs.Tallies.{Cleared, Remaining}
 use Rattle.network.specs.declared.Network.{Network}
-use Rattle.network.specs.Places.{network_of, terminals_of, links_of, chosen_of, Invariant, Sized}
+use Rattle.network.specs.Places.{network_of, terminals_of, links_of, Invariant, Sized}
 use Rattle.network.specs.Workable.{Workable}
 use Rattle.network.proofs.Kept.{chosen-of}
 use Rattle.simple.specs.Begins.{Several, ChosenPiece}

@@ -1,4 +1,6 @@
 // A network by value made simple: steps 1 to 4 of the written rule, as often as they fit.
+#![tactic(auto)]
+
 ghost use Rattle.std.specs.Prelude.{◌≡◌};
 ghost use Rattle.search.specs.Searches.{Inside};
 ghost use Rattle.reliability.specs.Networks.{pieces_of};

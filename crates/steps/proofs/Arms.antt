@@ -1,8 +1,8 @@
 -- What is known of links and branches where a step is worked on a network by value.
 use Prim.Native.Nat.{ℕ, ◌-◌, min, ◌≤◌, ◌<◌}
 use mathlib.Core.Path.{◌≡◌, sym, ap, ◌∙◌, subst}
-use mathlib.Core.List.{List, map}
-use mathlib.Core.Bool.{Bool, true, false, cond}
+use mathlib.Core.List.{List}
+use mathlib.Core.Bool.{true, false, cond}
 use native.Mathlib.Omega.{arith}
 use lib.Dec.{leb}
 use lib.ListN.{length, set}
@@ -13,14 +13,14 @@ use Rattle.bits.specs.Members.{members, how_many}
 use Rattle.reliability.specs.declared.Link.{Link}
 use Rattle.reliability.specs.declared.Step.{Step}
 use Rattle.reliability.specs.declared.Step.TheVariants.{OneNode, End, Series, Split}
-use Rattle.reliability.specs.Networks.{value, link_at}
+use Rattle.reliability.specs.Networks.{value}
 use Rattle.reliability.specs.Rule.{is_loop, across, ready, Tree, multiplied, fork, taken}
-use Rattle.reliability.specs.Terminals.{Terminals, Chosen, has as listing, into, split_at, next, end_left, series_left, sound_left, broken_left, factored, leaves, tree}
+use Rattle.reliability.specs.Terminals.{Terminals, Chosen, has as listing, into, split_at, next, end_left, series_left, sound_left, broken_left, leaves, tree}
 use Rattle.reliability.specs.Simple.{Loopless, Pairless, Plain, Simple}
 use Rattle.reliability.proofs.Validity.{proper-at}
 use Rattle.reliability.proofs.Unrolled.{Below, tree-settled, tree-factored, workAt, tree-split, below-factored, below-branches}
 use Rattle.reliability.proofs.Steps.{AtSplit}
-use Rattle.reliability.proofs.TerminalSteps.{Fits, split-there}
+use Rattle.reliability.proofs.TerminalSteps.{split-there}
 use Rattle.reliability.proofs.Lists.{getD-mem}
 use Rattle.reliability.proofs.Searches.{none_found}
 use Rattle.reliability.proofs.Simple.{one-tree as one-chosen, end-simple, series-plain, contracted-plain, deleted-loopless, deleted-pairless}
@@ -28,7 +28,7 @@ use Rattle.search.specs.Searches.{nodes_in}
 use Rattle.search.proofs.Marks.{length-places}
 use Rattle.parts.specs.Tallies.{Written}
 use Rattle.network.specs.declared.Network.{Network}
-use Rattle.network.specs.Places.{network_of, terminals_of, links_of, nodes_of, chosen_of, index_of, link_of, row_of, Used, Invariant, Sized, ranked, Fitting}
+use Rattle.network.specs.Places.{network_of, terminals_of, links_of, chosen_of, index_of, link_of, row_of, Used, Invariant, Sized, ranked, Fitting}
 use Rattle.network.specs.Workable.{Workable}
 use Rattle.network.proofs.Picks.{index-within, link-at}
 use Rattle.network.proofs.Kept.{chosen-of, by_rule, known, deletes}

@@ -1,4 +1,6 @@
 // Which step of the written rule fits a simple network.
+#![tactic(auto)]
+
 ghost use Rattle.std.specs.Prelude.{◌≡◌, ◌<◌};
 ghost use Rattle.bits.specs.Members.{members};
 ghost use Rattle.network.specs.Places.{rank, Fitting, assembled};

@@ -1,0 +1,111 @@
+use Prim.Native.Nat.{ℕ, ◌≤◌, ◌<◌}
+use mathlib.Core.Path.{◌≡◌, refl, sym, ap, ◌∙◌}
+use mathlib.Core.Bool.{Bool, true, false, cond}
+use native.Mathlib.Omega.{arith}
+use lib.ListN.{get_or, set}
+use Rattle.rounding.specs.Rounding.{S, product as productOf, series as series_of}
+use Rattle.rounding.specs.declared.Direction.{Direction}
+use Rattle.rounding.specs.declared.Direction.TheVariants.{Down, Up}
+use Rattle.reliability.specs.Networks.{value}
+use Rattle.reliability.specs.Rule.{without, across}
+use Rattle.reliability.specs.Terminals.{among, has as listing, in_line}
+use Rattle.search.proofs.Sets.{listed_has}
+use Rattle.network.specs.declared.Network.{Network}
+use Rattle.network.specs.Places.{nodes_of, chosen_of, Sized}
+use Rattle.network.proofs.Picks.{all-even, row, row_at, rows-set, values-within, joined-links}
+use Rattle.network.proofs.Kept.{stands, ends-below, series-valid, across-below, turned-over}
+use borrow.Author.Rules.{rules}
+use Rattle.network.proofs.Network.series.Goals as goal
+use Rattle.network.proofs.Network.series.Goals.{Start}
+
+sized : (c : Start) → Sized c.args.self
+sized c = search rules
+
+within : (c : Start) (d : Direction) → (value d (row_at c.args.self c.args.i) ≤ S) × (value d (row_at c.args.self c.args.j) ≤ S)
+within c = values-within c.args.self (sized c) c.requires.0.valid c.args.i c.args.j c.requires.1.placed.1 c.requires.1.placed.2
+
+ends-i : (c : Start) → (get_or c.args.self.a c.args.i 0 < 32) × (get_or c.args.self.b c.args.i 0 < 32)
+ends-i c = ends-below c.args.self (sized c) c.requires.0 c.args.i c.requires.1.placed.1
+
+ends-j : (c : Start) → (get_or c.args.self.a c.args.j 0 < 32) × (get_or c.args.self.b c.args.j 0 < 32)
+ends-j c = ends-below c.args.self (sized c) c.requires.0 c.args.j c.requires.1.placed.2
+
+below : (c : Start) → (c.args.i < 64) × (c.args.j < 64)
+below c = (c.requires.1.placed.1.below, c.requires.1.placed.2.below)
+
+node-below : (c : Start) → c.args.v < 64
+node-below c = let v = c.requires.1.placed.0 in omega arith
+
+-- two links in line, by place
+made-line : (n : Network) (v i j : ℕ) {chosen : Bool} {a b low high : ℕ} → chosen ≡ listing v (chosen_of n) → a ≡ across v (row_at n i) → b ≡ across v (row_at n j)
+    → low ≡ cond chosen (series_of Down (get_or n.low i 0) (get_or n.low j 0)) (productOf Down (get_or n.low i 0) (get_or n.low j 0))
+    → high ≡ cond chosen (series_of Up (get_or n.high i 0) (get_or n.high j 0)) (productOf Up (get_or n.high i 0) (get_or n.high j 0))
+    → row a b low high ≡ in_line (listing v (chosen_of n)) v (row_at n i) (row_at n j)
+made-line n v i j {chosen} e first second lower upper = (λ t. row (first t) (second t) (lower t) (upper t)) ∙ by chosen ∙ ap (λ c. in_line c v (row_at n i) (row_at n j)) e
+  where
+    by : (c : Bool) → row (across v (row_at n i)) (across v (row_at n j)) (cond c (series_of Down (get_or n.low i 0) (get_or n.low j 0)) (productOf Down (get_or n.low i 0) (get_or n.low j 0))) (cond c (series_of Up (get_or n.high i 0) (get_or n.high j 0)) (productOf Up (get_or n.high i 0) (get_or n.high j 0)))
+        ≡ in_line c v (row_at n i) (row_at n j)
+    by true = refl
+    by false = refl
+
+pub has-c-requires : goal.has-c-requires
+has-c-requires c = node-below c
+
+pub line-low-requires : goal.line-low-requires
+line-low-requires c = within (goal.at.line-low-requires c).Start Down
+
+pub line-high-requires : goal.line-high-requires
+line-high-requires c = within (goal.at.line-high-requires c).Start Up
+
+pub take_out-requires : goal.take_out-requires
+take_out-requires c =
+    ((sized (goal.at.take_out-requires c).Start).at_length, omega (arith, ends-j (goal.at.take_out-requires c).Start), omega (arith, below (goal.at.take_out-requires c).Start))
+
+pub take_out-requires-2 : goal.take_out-requires-2
+take_out-requires-2 c =
+    (c.take_out.ensures.size ∙ (sized (goal.at.take_out-requires-2 c).Start).at_length, omega (arith, ends-j (goal.at.take_out-requires-2 c).Start), omega (arith, below (goal.at.take_out-requires-2 c).Start))
+
+pub take_out-requires-3 : goal.take_out-requires-3
+take_out-requires-3 c =
+    (c.take_out-2.ensures.size ∙ c.take_out.ensures.size ∙ (sized (goal.at.take_out-requires-3 c).Start).at_length, c.requires.1.placed.0, omega (arith, below (goal.at.take_out-requires-3 c).Start))
+
+pub returns : goal.returns
+returns c =
+    let p = c.put_in in
+    let three = c.take_out-3 in
+    let two = c.take_out-2 in
+    let one = c.take_out in
+    let b = c.across-b in
+    let a = c.across-a in
+    let high = c.line-high in
+    let low = c.line-low in
+    let chosen = c.has-c in
+    let n = c.args.self in
+    let i = c.args.i in
+    let j = c.args.j in
+    let v = c.args.v in
+    let r : Network = record { alive = c.without-alive.result; at = p.new.at; low = set n.low i low.result; high = set n.high i high.result; a = set n.a i a.result; b = set n.b i b.result; nodes = c.without_node-nodes.result; chosen = c.without_node-chosen.result } in
+    let listed : chosen.result ≡ listing v (chosen_of n) = chosen.ensures ∙ sym (listed_has n.chosen v) in
+    let first : a.result ≡ across v (row_at n i) = a.ensures in
+    let second : b.result ≡ across v (row_at n j) = b.ensures in
+    let e = row a.result b.result low.result high.result in
+    let made : e ≡ in_line (listing v (chosen_of n)) v (row_at n i) (row_at n j) = made-line n v i j listed first second low.ensures high.ensures in
+    let written = rows-set (all-even n (sized (goal.at.returns c).Start)) i e in
+    let links = joined-links n r.alive j _ c.requires.1.placed.2 c.without-alive.ensures (sized (goal.at.returns c).Start) i e (in_line (listing v (chosen_of n)) v) c.requires.1.placed.1 written made in
+    let nodes : nodes_of r ≡ without v (nodes_of n) = c.without_node-nodes.ensures in
+    let left : chosen_of r ≡ without v (chosen_of n) = c.without_node-chosen.ensures in
+    stands r (λ t. among (left t) (record { nodes = nodes t; links = links t })) (series-valid n c.requires.0 v i j c.requires.1)
+    (turned-over n (sized (goal.at.returns c).Start) c.requires.0 v i j c.requires.1 one.new.at two.new.at three.new.at r.at a.result first {y = b.result} r.alive c.without-alive.ensures one.ensures two.ensures three.ensures p.ensures)
+
+pub put_in-requires : goal.put_in-requires
+put_in-requires c =
+    (c.take_out-3.ensures.size ∙ c.take_out-2.ensures.size ∙ c.take_out.ensures.size ∙ (sized (goal.at.put_in-requires c).Start).at_length, omega (arith, across-below _ _ _ (ends-i (goal.at.put_in-requires c).Start) c.across-a.ensures, across-below _ _ _ (ends-j (goal.at.put_in-requires c).Start) c.across-b.ensures), omega (arith, below (goal.at.put_in-requires c).Start))
+
+pub without_node-nodes-requires : goal.without_node-nodes-requires
+without_node-nodes-requires c = node-below (goal.at.without_node-nodes-requires c).Start
+
+pub without_node-chosen-requires : goal.without_node-chosen-requires
+without_node-chosen-requires c = node-below (goal.at.without_node-chosen-requires c).Start
+
+pub without-alive-requires : goal.without-alive-requires
+without-alive-requires c = omega (arith, below (goal.at.without-alive-requires c).Start)
