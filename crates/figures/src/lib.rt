@@ -1,4 +1,6 @@
 // Figures made of figures, and differences: numbers alone.
+#![tactic(auto)]
+
 ghost use Rattle.std.specs.Prelude.{◌≡◌, true, cond, ◌&&◌, ◌+◌, ◌-◌, ◌^◌, ◌≤◌, ◌<◌, pos, ◌-ℤ◌};
 ghost use Rattle.rounding.specs.Rounding.{S, factor};
 ghost use Rattle.reliability.specs.Networks.{value};

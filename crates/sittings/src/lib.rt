@@ -1,4 +1,6 @@
 // Work set aside and carried on: what it means is in specs/, what holds of it in proofs/.
+#![tactic(auto)]
+
 use reliability::Figure;
 
 // The figure of a run, and how many open splits it sets aside.
