@@ -1,4 +1,6 @@
 // What is made of two figures, of all nodes: the importance of a link, and the difference of two networks.
+#![tactic(auto)]
+
 ghost use Rattle.std.specs.Prelude.{◌≡◌, ◌^◌, ◌<◌};
 ghost use Rattle.reliability.specs.Comparisons.{importance, difference};
 ghost use Rattle.network.specs.Places.{network_of, index_of, Used, Invariant};

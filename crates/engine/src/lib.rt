@@ -1,18 +1,24 @@
 // The engine: the written rule on a simple network by value, from work set aside or from nothing.
-ghost use Rattle.std.specs.Prelude.{◌+◌, ◌^◌, ◌≤◌, ◌<◌, length};
-ghost use Rattle.reliability.specs.Terminals.{tree};
-ghost use Rattle.network.specs.Places.{terminals_of, links_of, assembled};
+#![tactic(auto)]
+
+ghost use Rattle.std.specs.Prelude.{◌≡◌, false, ◌+◌, ◌^◌, ◌≤◌, ◌<◌, length};
+ghost use Rattle.reliability.specs.Rule.{is_loop};
+ghost use Rattle.reliability.specs.Terminals.{tree, end_left, series_left, sound_left};
+ghost use Rattle.reliability.specs.Simple.{Plain};
+ghost use Rattle.network.specs.Places.{terminals_of, links_of, index_of, link_of, Used, Fitting, assembled};
 ghost use Rattle.network.specs.Workable.{Workable};
 ghost use Rattle.sittings.specs.Sittings.{resumed};
 ghost use Rattle.sittings.specs.Entries.{opens_in};
 ghost use Rattle.engine.specs.Carrying.{Carries, Worked};
 
 use network::Network;
+use reliability::Step;
 use sittings::Carried;
 use steps::Next;
 
 // The figure of a simple network, given by its parts, under a limit, and what it sets aside: what each step leaves is worked by
 // the same rule, with a link less. Of the row the open splits from place k on, as many as are left, are taken already.
+#[cycle(run)]
 pub fn run<'r>(
     alive: u64,
     nodes: u32,
@@ -28,7 +34,7 @@ pub fn run<'r>(
     left: usize,
 ) -> Carried
     requires workable { Workable (assembled alive nodes chosen at.now a.now b.now low.now high.now) × (limit < 2 ^ 32) }
-    requires high_bound { (k + length (links_of (assembled alive nodes chosen at.now a.now b.now low.now high.now)) ≤ 64) × Carries (tree (terminals_of (assembled alive nodes chosen at.now a.now b.now low.now high.now))) row.old k left }
+    requires carries { (k + length (links_of (assembled alive nodes chosen at.now a.now b.now low.now high.now)) ≤ 64) × Carries (tree (terminals_of (assembled alive nodes chosen at.now a.now b.now low.now high.now))) row.old k left }
     ensures { Worked (resumed (tree (terminals_of (assembled alive nodes chosen at.now a.now b.now low.now high.now))) (opens_in row.old k left)) limit row.old k result row.new }
 {
     match steps::step(alive, nodes, chosen, at, a, b, low, high) {
@@ -42,9 +48,8 @@ pub fn run<'r>(
                 let one = figures::settled(1_000_000_000);
                 return rows::whole(figures::end_of(multiplies, e, one));
             }
-            let r = assembly::assembled(alive, nodes, chosen, at, a, b, low, high).end(v, i);
-            let f = run(
-                r.alive, r.nodes, r.chosen, &r.at, &r.a, &r.b, &r.low, &r.high, limit, row, k, left,
+            let f = after_end(
+                alive, nodes, chosen, at, a, b, low, high, v, i, limit, row, k, left,
             );
             let figure = figures::end_of(multiplies, e, f.figure);
             Carried {
@@ -56,11 +61,8 @@ pub fn run<'r>(
             let e = assembly::link_at(a, b, low, high, i);
             let h = assembly::link_at(a, b, low, high, j);
             let multiplies = bits::has(chosen as u64, v);
-            let r = assembly::assembled(alive, nodes, chosen, at, a, b, low, high)
-                .series(v, i, j)
-                .parallel();
-            let f = run(
-                r.alive, r.nodes, r.chosen, &r.at, &r.a, &r.b, &r.low, &r.high, limit, row, k, left,
+            let f = after_series(
+                alive, nodes, chosen, at, a, b, low, high, v, i, j, limit, row, k, left,
             );
             let figure = figures::series_of(multiplies, e, h, f.figure);
             Carried {
@@ -82,18 +84,16 @@ pub fn run<'r>(
             let sound = if known {
                 rows::known_at(row, k)
             } else {
-                let s = assembly::contracted(
-                    alive, nodes, chosen, at, a, b, low, high, i,
-                ).parallel();
-                run(
-                    s.alive,
-                    s.nodes,
-                    s.chosen,
-                    &s.at,
-                    &s.a,
-                    &s.b,
-                    &s.low,
-                    &s.high,
+                after_contraction(
+                    alive,
+                    nodes,
+                    chosen,
+                    at,
+                    a,
+                    b,
+                    low,
+                    high,
+                    i,
                     limited,
                     row,
                     k + 1,
@@ -130,4 +130,91 @@ pub fn run<'r>(
             rows::closed(row, k, place, e, own, sound, broken)
         }
     }
+}
+
+// The figure of what an end leaves, and what it sets aside: node v goes with its link i. A function of its own, so that a run has no
+// network among its locals, which are all zeroed at each call.
+#[cycle(run)]
+fn after_end<'r>(
+    alive: u64,
+    nodes: u32,
+    chosen: u32,
+    at: &'r [u64; 32],
+    a: &'r [u8; 64],
+    b: &'r [u8; 64],
+    low: &'r [u32; 64],
+    high: &'r [u32; 64],
+    v: usize,
+    i: usize,
+    limit: u64,
+    row: &mut [u32; 192],
+    k: usize,
+    left: usize,
+) -> Carried
+    requires workable { Workable (assembled alive nodes chosen at.now a.now b.now low.now high.now) × Fitting (assembled alive nodes chosen at.now a.now b.now low.now high.now) (Step.End v i) × (limit < 2 ^ 32) }
+    requires carries { (k + length (end_left v (index_of (assembled alive nodes chosen at.now a.now b.now low.now high.now) i) (terminals_of (assembled alive nodes chosen at.now a.now b.now low.now high.now))).network.links ≤ 64) × Carries (tree (end_left v (index_of (assembled alive nodes chosen at.now a.now b.now low.now high.now) i) (terminals_of (assembled alive nodes chosen at.now a.now b.now low.now high.now)))) row.old k left }
+    ensures { Worked (resumed (tree (end_left v (index_of (assembled alive nodes chosen at.now a.now b.now low.now high.now) i) (terminals_of (assembled alive nodes chosen at.now a.now b.now low.now high.now)))) (opens_in row.old k left)) limit row.old k result row.new }
+{
+    let r = assembly::assembled(alive, nodes, chosen, at, a, b, low, high).end(v, i);
+    run(
+        r.alive, r.nodes, r.chosen, &r.at, &r.a, &r.b, &r.low, &r.high, limit, row, k, left,
+    )
+}
+
+// The same of what two links in series leave: node v goes, and its links i and j become one.
+#[cycle(run)]
+fn after_series<'r>(
+    alive: u64,
+    nodes: u32,
+    chosen: u32,
+    at: &'r [u64; 32],
+    a: &'r [u8; 64],
+    b: &'r [u8; 64],
+    low: &'r [u32; 64],
+    high: &'r [u32; 64],
+    v: usize,
+    i: usize,
+    j: usize,
+    limit: u64,
+    row: &mut [u32; 192],
+    k: usize,
+    left: usize,
+) -> Carried
+    requires workable { Workable (assembled alive nodes chosen at.now a.now b.now low.now high.now) × Fitting (assembled alive nodes chosen at.now a.now b.now low.now high.now) (Step.Series v i j) × (limit < 2 ^ 32) }
+    requires carries { (k + length (series_left v (index_of (assembled alive nodes chosen at.now a.now b.now low.now high.now) i) (index_of (assembled alive nodes chosen at.now a.now b.now low.now high.now) j) (terminals_of (assembled alive nodes chosen at.now a.now b.now low.now high.now))).network.links ≤ 64) × Carries (tree (series_left v (index_of (assembled alive nodes chosen at.now a.now b.now low.now high.now) i) (index_of (assembled alive nodes chosen at.now a.now b.now low.now high.now) j) (terminals_of (assembled alive nodes chosen at.now a.now b.now low.now high.now)))) row.old k left }
+    ensures { Worked (resumed (tree (series_left v (index_of (assembled alive nodes chosen at.now a.now b.now low.now high.now) i) (index_of (assembled alive nodes chosen at.now a.now b.now low.now high.now) j) (terminals_of (assembled alive nodes chosen at.now a.now b.now low.now high.now)))) (opens_in row.old k left)) limit row.old k result row.new }
+{
+    let r = assembly::assembled(alive, nodes, chosen, at, a, b, low, high)
+        .series(v, i, j)
+        .parallel();
+    run(
+        r.alive, r.nodes, r.chosen, &r.at, &r.a, &r.b, &r.low, &r.high, limit, row, k, left,
+    )
+}
+
+// The same of the sound branch of a split on link i.
+#[cycle(run)]
+fn after_contraction<'r>(
+    alive: u64,
+    nodes: u32,
+    chosen: u32,
+    at: &'r [u64; 32],
+    a: &'r [u8; 64],
+    b: &'r [u8; 64],
+    low: &'r [u32; 64],
+    high: &'r [u32; 64],
+    i: usize,
+    limit: u64,
+    row: &mut [u32; 192],
+    k: usize,
+    left: usize,
+) -> Carried
+    requires workable { Workable (assembled alive nodes chosen at.now a.now b.now low.now high.now) × Used (assembled alive nodes chosen at.now a.now b.now low.now high.now) i × (is_loop (link_of (assembled alive nodes chosen at.now a.now b.now low.now high.now) i) ≡ false) × Plain (sound_left (index_of (assembled alive nodes chosen at.now a.now b.now low.now high.now) i) (terminals_of (assembled alive nodes chosen at.now a.now b.now low.now high.now))) × (length (sound_left (index_of (assembled alive nodes chosen at.now a.now b.now low.now high.now) i) (terminals_of (assembled alive nodes chosen at.now a.now b.now low.now high.now))).network.links < length (links_of (assembled alive nodes chosen at.now a.now b.now low.now high.now))) × (limit < 2 ^ 32) }
+    requires carries { (k + length (sound_left (index_of (assembled alive nodes chosen at.now a.now b.now low.now high.now) i) (terminals_of (assembled alive nodes chosen at.now a.now b.now low.now high.now))).network.links ≤ 64) × Carries (tree (sound_left (index_of (assembled alive nodes chosen at.now a.now b.now low.now high.now) i) (terminals_of (assembled alive nodes chosen at.now a.now b.now low.now high.now)))) row.old k left }
+    ensures { Worked (resumed (tree (sound_left (index_of (assembled alive nodes chosen at.now a.now b.now low.now high.now) i) (terminals_of (assembled alive nodes chosen at.now a.now b.now low.now high.now)))) (opens_in row.old k left)) limit row.old k result row.new }
+{
+    let r = assembly::contracted(alive, nodes, chosen, at, a, b, low, high, i).parallel();
+    run(
+        r.alive, r.nodes, r.chosen, &r.at, &r.a, &r.b, &r.low, &r.high, limit, row, k, left,
+    )
 }

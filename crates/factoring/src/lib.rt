@@ -1,4 +1,6 @@
 // The figure of any network, from work set aside or from nothing: it is made simple, and then worked.
+#![tactic(auto)]
+
 ghost use Rattle.std.specs.Prelude.{◌≡◌, ◌^◌, ◌<◌};
 ghost use Rattle.reliability.specs.Terminals.{figure, tree};
 ghost use Rattle.network.specs.Places.{terminals_of, Invariant};
