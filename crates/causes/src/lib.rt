@@ -1,11 +1,13 @@
 // Why a call of the planning desk is refused, and what it then returns.
+#![tactic(auto)]
+
 ghost use Rattle.std.specs.Prelude.{◌≡◌};
 ghost use Rattle.causes.specs.Causes.{call_number, call_link, call_returned};
 
 use plan::Cause;
 
 // Why a call is refused: its own causes, or that of plan A or of plan B.
-#[derive(Drop)]
+#[derive(Clone, Copy)]
 pub enum CallCause {
     Limit,
     Buffer,

@@ -1,4 +1,6 @@
 // The network by value of an accepted plan, under a table of ratings.
+#![tactic(auto)]
+
 ghost use Rattle.std.specs.Prelude.{◌≡◌};
 ghost use Rattle.reader.specs.Layout.{size_m};
 ghost use Rattle.ratings.specs.Ratings.{T};

@@ -1,4 +1,6 @@
 // The plan file: what its values stand for, the causes of refusal, and the links of an accepted plan.
+#![tactic(auto)]
+
 ghost use Rattle.std.specs.Prelude.{◌≡◌, ◌+◌, ◌*◌, ◌<◌, length};
 ghost use Rattle.reader.specs.Layout.{size_m};
 ghost use Rattle.tables.specs.Tables.{rating, AcceptedTable};
@@ -14,7 +16,7 @@ const UNITS: u32 = 1_000_000_000;
 const LENGTHS: u32 = 2_147_483_648;
 
 // Why a plan is refused.
-#[derive(Drop)]
+#[derive(Clone, Copy)]
 pub enum Cause {
     Short,
     Nodes,

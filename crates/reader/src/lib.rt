@@ -1,4 +1,6 @@
 // The plan file as it stands: its sizes, and the entry of each link, read from the lent bytes.
+#![tactic(auto)]
+
 ghost use Rattle.std.specs.Prelude.{◌≡◌, ◌+◌, ◌*◌, ◌≤◌, ◌<◌, length};
 ghost use Rattle.words.specs.Words.{byte, word16, word32};
 ghost use Rattle.reader.specs.Layout.{size_n, size_m, first_end, second_end, file_value};
@@ -10,7 +12,7 @@ pub struct Sizes {
 }
 
 // The lent plan and the position of what is read next.
-#[derive(Drop)]
+#[derive(Clone, Copy)]
 pub struct Reader<'a> {
     pub plan: &'a [u8],
     pub at: usize,

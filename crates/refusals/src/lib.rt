@@ -1,4 +1,6 @@
 // Which cause of refusal a call of the planning desk meets first.
+#![tactic(auto)]
+
 ghost use Rattle.std.specs.Prelude.{◌≡◌, ◌≤◌, length};
 ghost use Rattle.plan.specs.Plans.{size_n, verdict};
 ghost use Rattle.refusals.specs.Refusals.{asked, work_room, tabled, also, planned, planned_second, placed, named, table_and_plan, figure_verdict, chosen_verdict, importance_verdict, sitting_verdict};

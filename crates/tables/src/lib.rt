@@ -1,4 +1,6 @@
 // A buyer's own table: a rating by length in place of T, and whether it is what it has to be.
+#![tactic(auto)]
+
 ghost use Rattle.std.specs.Prelude.{◌≡◌, true, ◌<◌, length};
 ghost use Rattle.tables.specs.Tables.{value_in, rating, sized, never_rises, well_rated, AcceptedTable};
 
