@@ -2,14 +2,14 @@
 use Prim.Native.Nat.{ℕ, zero, suc, ◌+◌, ◌*◌, ◌-◌, ◌≤◌, ◌<◌}
 use mathlib.Core.Path.{◌≡◌, refl, sym, ap, ◌∙◌}
 use mathlib.Core.List.{List, ◌∷◌}
-use mathlib.Core.Bool.{Bool, true, false, not, ◌&&◌, ◌||◌}
+use mathlib.Core.Bool.{Bool, true, false, ◌&&◌, ◌||◌}
 use native.Mathlib.Numerals.{add-one}
 use native.Mathlib.Omega.{arith}
 use lib.Dec.{eqb, leb}
 use lib.ListN.{length, get_or, set, length-set}
 use lib.Seq.{get_or-set_same, get_or-set_other}
 use borrow.Author.Count.{below_more}
-use borrow.Author.Tests.{le-leb, lt-leb, eq-eqb, ne_eqb, eqb-true, not-true, not-false}
+use borrow.Author.Tests.{le-leb, lt-leb, eq-eqb, ne_eqb, eqb-true}
 use Rattle.rounding.specs.Rounding.{S}
 use Rattle.words.specs.Words.{word32}
 use Rattle.sittings.specs.Sittings.{most}
@@ -54,11 +54,11 @@ module _ (b : List ℕ) (c i low high : ℕ) (t : Bool) (count : c ≡ count_in 
       let more : c - i ≡ suc (c - (i + 1)) = omega arith in
       ap (pairs_allowed b i) more ∙ rw (one, add-one) refl
 
-  pub pair-refused : not t ≡ true → false ≡ pairs_allowed b i (c - i)
-  pair-refused e = sym (next ∙ ap (λ u. u && pairs_allowed b (i + 1) (c - (i + 1))) (not-true t e))
+  pub pair-refused : t ≡ false → false ≡ pairs_allowed b i (c - i)
+  pair-refused e = sym (next ∙ ap (λ u. u && pairs_allowed b (i + 1) (c - (i + 1))) e)
 
-  pub pair-passed : not t ≡ false → pairs_allowed b i (c - i) ≡ pairs_allowed b (i + 1) (c - (i + 1))
-  pair-passed e = next ∙ ap (λ u. u && pairs_allowed b (i + 1) (c - (i + 1))) (not-false t e)
+  pub pair-passed : t ≡ true → pairs_allowed b i (c - i) ≡ pairs_allowed b (i + 1) (c - (i + 1))
+  pair-passed e = next ∙ ap (λ u. u && pairs_allowed b (i + 1) (c - (i + 1))) e
 
 pub pairs-passed : (b : List ℕ) (i k : ℕ) → k ≡ 0 → pairs_allowed b i k ≡ true
 unfolding pairs_allowed

@@ -1,4 +1,6 @@
 // Saved work in its bytes: read and tested.
+#![tactic(auto)]
+
 ghost use Rattle.std.specs.Prelude.{◌≡◌, true, ◌+◌, ◌*◌, ◌≤◌, eqb, length};
 ghost use Rattle.sittings.specs.Entries.{opens_in};
 ghost use Rattle.saved.specs.Format.{count_in, state_in, taken_in, opens_of, pair_allowed, pairs_allowed, begun_well, complete_well, well_formed};

@@ -1,4 +1,6 @@
 // The causes of saved work: 10, then 11.
+#![tactic(auto)]
+
 ghost use Rattle.std.specs.Prelude.{◌≡◌};
 ghost use Rattle.reliability.specs.Rule.{tree};
 ghost use Rattle.tables.specs.Tables.{rating, AcceptedTable};

@@ -1,4 +1,6 @@
 // Saved work in its bytes: written.
+#![tactic(auto)]
+
 ghost use Rattle.std.specs.Prelude.{◌≡◌, ◌++◌, ◌+◌, ◌*◌, ◌≤◌, length, take, drop};
 ghost use Rattle.sittings.specs.Sittings.{complete};
 ghost use Rattle.saved.specs.Format.{words, row_places, row_pairs, saved_bytes, begun_bytes, over};

@@ -7,7 +7,6 @@ use native.Mathlib.Omega.{arith}
 use lib.ListN.{length}
 use lib.Seq.{sets}
 use Rattle.reliability.specs.declared.Figure.{Figure}
-use Rattle.reliability.specs.Networks.{Network}
 use Rattle.reliability.specs.Rule.{Tree, tree, run, more}
 use Rattle.reliability.proofs.Runs.{steps}
 use Rattle.ratings.specs.Ratings.{AtMostS}

@@ -1,4 +1,6 @@
 // A sitting of the planning desk: a long run is set aside and carried on.
+#![tactic(auto)]
+
 ghost use Rattle.std.specs.Prelude.{◌≡◌, ◌+◌, ◌-◌, ◌^◌, ◌≤◌, ◌<◌, min, length};
 ghost use Rattle.reliability.specs.Rule.{more};
 ghost use Rattle.answers.specs.Answers.{with_figure};
