@@ -8,8 +8,8 @@ use native.Mathlib.Omega.{arith}
 use lib.ListN.{length, drop, get_or, length-append, length-drop, get_or-append}
 use lib.Seq.{drop-nil}
 use Rattle.ratings.specs.Ratings.{T}
-use Rattle.reliability.specs.Networks.{ends, connected}
-use Rattle.plan.specs.Plans.{WellFormed, size_n, size_m, link_in, plan_of}
+use Rattle.reliability.specs.Networks.{connected}
+use Rattle.plan.specs.Plans.{WellFormed, size_n, size_m, plan_of}
 use Rattle.plan.proofs.Links.{same_ends}
 use Rattle.plan.proofs.Accepted.{plan-links}
 use Rattle.causes.specs.declared.CallCause.{CallCause}

@@ -1,4 +1,6 @@
 // How many sets of links connect all nodes of a plan, for each number of links.
+#![tactic(auto)]
+
 ghost use Rattle.std.specs.Prelude.{◌≤◌, ◌≡◌, length};
 ghost use Rattle.refusals.specs.Refusals.{also};
 ghost use Rattle.count_desk.specs.Counts.{few, row_room, counts_verdict, counts_outcome};

@@ -1,6 +1,6 @@
 -- With all nodes chosen every outcome is that of the rule of document 01.
-use Prim.Native.Nat.{ℕ, ◌-◌, ◌≤◌, min}
-use mathlib.Core.Path.{◌≡◌, refl, sym, ap, ◌∙◌, subst}
+use Prim.Native.Nat.{ℕ, ◌-◌, min}
+use mathlib.Core.Path.{◌≡◌, refl, ap, ◌∙◌, subst}
 use mathlib.Core.List.{List}
 use native.Mathlib.Omega.{arith}
 use lib.ListN.{length}
@@ -15,7 +15,7 @@ use Rattle.tables.specs.Tables.{rating}
 use Rattle.plan.specs.Plans.{size_n, WellFormed, plan_of}
 use Rattle.causes.specs.declared.CallVerdict.{CallVerdict}
 use Rattle.causes.specs.declared.CallVerdict.TheVariants.{Accepted, Refused}
-use Rattle.causes.specs.Outcomes.{Outcome, unless}
+use Rattle.causes.specs.Outcomes.{unless}
 use Rattle.refusals.specs.Refusals.{figure_verdict}
 use Rattle.refusals.proofs.Calls.{figure-means, chosen-all}
 use Rattle.answers.specs.Answers.{with_figure, steps_in, finished_in}

@@ -14,6 +14,8 @@ use Rattle.desk.specs.Outcomes.{twos}
 
 both_hold : (s t : Bool) → T (s && t) → (s ≡ true) × (t ≡ true)
 both_hold true true h = (refl, refl)
+both_hold false t h = elim h [ ]
+both_hold true false h = elim h [ ]
 
 module _ (x : ℤ) (fits : SFits w32 x) where
   read : to_z w32 (of_z w32 x) ≡ x

@@ -1,4 +1,6 @@
 // The planning desk's seven calls, for programs in C.
+#![tactic(auto)]
+
 ghost use Rattle.std.specs.Prelude.{◌≡◌, length};
 ghost use Rattle.sitting_desk.specs.Outcome.{sitting_outcome};
 ghost use Rattle.count_desk.specs.Counts.{counts_outcome};

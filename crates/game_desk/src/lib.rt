@@ -1,4 +1,6 @@
 // Cutter and keeper on a plan: who can force the win, for each side opening, and what shows it.
+#![tactic(auto)]
+
 ghost use Rattle.std.specs.Prelude.{◌+◌, ◌≤◌, ◌≡◌, ◌++◌, ◌∷◌, cond, length, take, drop};
 ghost use Rattle.plan.specs.Plans.{size_n, WellFormed};
 ghost use Rattle.forests.specs.Answers.{Plan};

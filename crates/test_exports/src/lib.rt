@@ -1,5 +1,7 @@
 // The operations of the lower crates under C names, for the tests outside Rattle. Arguments out of range get the largest
 // number of the result's type.
+#![tactic(auto)]
+
 ghost use Rattle.std.specs.Prelude.{◌≡◌, ◌&&◌, ◌*◌, ◌/◌, ◌%◌, ltb};
 ghost use Rattle.rounding.specs.Rounding.{S, product, parallel, either, series, factor, split, fewest_digits};
 ghost use Rattle.ratings.specs.Ratings.{T};
