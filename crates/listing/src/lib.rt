@@ -1,4 +1,6 @@
 // The listing of a plan, as text.
+#![tactic(auto)]
+
 ghost use Rattle.std.specs.Prelude.{◌≡◌, List, ◌++◌, ℕ, ◌+◌, ◌≤◌, length, drop};
 ghost use Rattle.lines.specs.Lines.{Puts};
 ghost use Rattle.plan.specs.Plans.{size_m, verdict};
@@ -54,7 +56,7 @@ pub fn listing(plan: &[u8], text: &mut [u8; 8192]) -> usize
 pub fn listing_of_input(buffer: &[u8; INPUT], n: usize, text: &mut [u8; 8192]) -> usize
     requires { n ≤ length buffer.now }
     ensures upper_bound { result ≤ length text.new }
-    ensures by_index { (input : List ℕ) → IsRead input buffer.now n → Lists input text.old text.new result }
+    ensures lists { (input : List ℕ) → IsRead input buffer.now n → Lists input text.old text.new result }
 {
     let bytes: &[u8] = buffer;
     listing(&bytes[..n], text)

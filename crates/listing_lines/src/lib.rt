@@ -1,4 +1,6 @@
 // The lines of a listing, each put into a text.
+#![tactic(auto)]
+
 ghost use Rattle.std.specs.Prelude.{◌≡◌, ◌+◌, ◌≤◌, ◌<◌, length};
 ghost use Rattle.lines.specs.Lines.{Puts};
 ghost use Rattle.plan.specs.Plans.{size_m, verdict};

@@ -1,4 +1,6 @@
 // Prints the listing of the plan on standard input.
+#![tactic(auto)]
+
 fn main() {
     let mut plan = [0u8; listing::INPUT];
     let n = io::read_full(0, &mut plan);
