@@ -40,6 +40,7 @@ pub enum Rated {
     Unrated,
 }
 
+#[tactic(auto, unfolding(crate::specs::Plans::rated))]
 fn stands_for(w: u32) -> Rated
     ensures { result ≡ rated w }
 {
@@ -102,6 +103,7 @@ fn links_verdict(plan: &[u8]) -> Verdict
 }
 
 // Causes 1 to 6.
+#[tactic(auto, unfolding(crate::specs::Plans::verdict))]
 pub fn verdict_of(plan: &[u8]) -> Verdict
     ensures { result ≡ verdict plan.now }
 {

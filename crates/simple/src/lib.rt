@@ -82,7 +82,8 @@ pub fn start(net: Network) -> Begun
             rest: n,
         };
     }
-    let r = kept(n, piece).parallel();
+    let k = kept(n, piece);
+    let r = k.parallel();
     Begun {
         settled: false,
         value: 0,

@@ -43,6 +43,7 @@ fn never_rises(table: &[u8]) -> bool
 }
 
 // No bytes, or 512 values.
+#[tactic(auto, unfolding(crate::specs::Tables::sized))]
 pub fn is_sized(table: &[u8]) -> bool
     ensures { result ≡ sized table.now }
 {

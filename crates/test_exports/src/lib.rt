@@ -25,6 +25,7 @@ fn chances(p: u32, q: u32) -> bool
     p <= 1_000_000_000 && q <= 1_000_000_000
 }
 
+#[tactic(auto, unfolding(crate::specs::Exports::divisible))]
 fn divisible(x: u64, w: u64) -> bool
     ensures { result ≡ divisible x w }
 {

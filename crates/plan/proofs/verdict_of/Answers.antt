@@ -2,12 +2,9 @@ use borrow.Author.Tests.{ltb-true, ltb-false}
 use native.Mathlib.Omega.{arith}
 use mathlib.Core.Path.{sym, ◌∙◌}
 use mathlib.Core.Logic.{inl, inr}
-use Rattle.plan.proofs.Verdicts.{refused-short, refused-nodes, refused-links, refused-length, by-links}
+use Rattle.plan.proofs.Verdicts.{refused-nodes, refused-links, refused-length, by-links}
 use Rattle.plan.proofs.verdict_of.Goals as goal
 use Rattle.plan.proofs.verdict_of.Goals.{then-s-eq0-via-then-s-eq0, then-s-eq0-via-else-s-eq0+then-s-gt32}
-
-pub returns-then-plan-lt4 : goal.returns-then-plan-lt4
-returns-then-plan-lt4 c = sym (refused-short c.args.plan.now c.if-plan-lt4.true)
 
 pub returns-then-s-eq0 : goal.returns-then-s-eq0
 returns-then-s-eq0 c =

@@ -104,15 +104,15 @@ returns-then-difference-ne0 c =
       simple = λ h. absurd (true≢false h);
     }
 
-pub kept-requires : goal.kept-requires
-kept-requires c =
+pub kept-k-requires : goal.kept-k-requires
+kept-k-requires c =
     let l = c.without_loops-n in
-    (l.ensures.1, several (goal.at.kept-requires c).Else-at_most_one, loopless (given (goal.at.kept-requires c).After-at_most_one) (net (goal.at.kept-requires c).After-at_most_one) c.requires l.ensures, c.chosen_piece-piece.ensures, inside c)
+    (l.ensures.1, several (goal.at.kept-k-requires c).Else-at_most_one, loopless (given (goal.at.kept-k-requires c).After-at_most_one) (net (goal.at.kept-k-requires c).After-at_most_one) c.requires l.ensures, c.chosen_piece-piece.ensures, inside c)
 
 pub parallel-r-requires : goal.parallel-r-requires
 parallel-r-requires c =
     let l = c.without_loops-n in
-    (c.kept.ensures.1, left-loopless (given (goal.at.parallel-r-requires c).After-at_most_one) (net (goal.at.parallel-r-requires c).After-at_most_one) c.requires l.ensures (several (goal.at.parallel-r-requires c).Else-at_most_one) (whole (goal.at.parallel-r-requires c).Else-difference-ne0) c.kept.result c.kept.ensures.0)
+    (c.kept-k.ensures.1, left-loopless (given (goal.at.parallel-r-requires c).After-at_most_one) (net (goal.at.parallel-r-requires c).After-at_most_one) c.requires l.ensures (several (goal.at.parallel-r-requires c).Else-at_most_one) (whole (goal.at.parallel-r-requires c).Else-difference-ne0) c.kept-k.result c.kept-k.ensures.0)
 
 pub returns : goal.returns
 returns c =
@@ -120,6 +120,6 @@ returns c =
     let q = c.parallel-r in
     record {
       settled = λ h. absurd (true≢false (sym h));
-      simple = λ h. begun (given (goal.at.returns c).After-at_most_one) (net (goal.at.returns c).After-at_most_one) c.requires l.ensures (several (goal.at.returns c).Else-at_most_one) (whole (goal.at.returns c).Else-difference-ne0) c.kept.result c.kept.ensures.0
+      simple = λ h. begun (given (goal.at.returns c).After-at_most_one) (net (goal.at.returns c).After-at_most_one) c.requires l.ensures (several (goal.at.returns c).Else-at_most_one) (whole (goal.at.returns c).Else-difference-ne0) c.kept-k.result c.kept-k.ensures.0
           q.result q.ensures.0 (sized_of q.lifetimes q.result q.type_inv) q.ensures.1;
     }
