@@ -8,6 +8,7 @@ ghost use Rattle.count_desk.specs.Counts.{few, row_room, counts_verdict, counts_
 use causes::{CallCause, CallVerdict};
 
 // Causes 15 and 16.
+#[tactic(auto, unfolding(crate::specs::Counts::few, crate::specs::Counts::row_room))]
 fn room_verdict(plan: &[u8], room: usize) -> CallVerdict
     requires { 4 ≤ length plan.now }
     ensures { result ≡ also (few plan.now) (row_room plan.now room) }

@@ -11,6 +11,7 @@ use causes::{CallCause, CallVerdict};
 use forests::{Answer, Links};
 
 // Cause 9, then those of the plan.
+#[tactic(auto, unfolding(crate::specs::Games::game_room))]
 fn game_verdict(plan: &[u8], room: usize) -> CallVerdict
     ensures { result ≡ game_verdict plan.now room }
 {

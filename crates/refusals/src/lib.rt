@@ -9,6 +9,7 @@ use causes::{CallCause, CallVerdict};
 use plan::Verdict;
 
 // Causes 7 and 9.
+#[tactic(auto, unfolding(crate::specs::Refusals::asked))]
 fn asked_verdict(limit: u64, room: usize) -> CallVerdict
     ensures { result ≡ asked limit room }
 {
@@ -22,6 +23,7 @@ fn asked_verdict(limit: u64, room: usize) -> CallVerdict
 }
 
 // And 9 of a sitting, which is lent a buffer for its work too.
+#[tactic(auto, unfolding(crate::specs::Refusals::work_room))]
 fn sitting_asked(limit: u64, room: usize, work: usize) -> CallVerdict
     ensures { result ≡ also (asked limit room) (work_room work) }
 {

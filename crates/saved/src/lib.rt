@@ -39,6 +39,7 @@ pub fn taken_of(b: &[u8]) -> u32
 // ---- check 10
 
 // A pair in order and at most S, or the running mark.
+#[tactic(auto, unfolding(crate::specs::Format::pair_allowed))]
 fn pair_allowed(low: u32, high: u32) -> bool
     ensures { result ≡ pair_allowed low high }
 {
@@ -64,6 +65,7 @@ fn pairs_allowed(b: &[u8]) -> bool
     true
 }
 
+#[tactic(auto, unfolding(crate::specs::Format::begun_well))]
 fn begun_well(b: &[u8]) -> bool
     requires { 8 ≤ length b.now }
     ensures { result ≡ begun_well b.now }
@@ -81,6 +83,7 @@ fn begun_well(b: &[u8]) -> bool
     pairs_allowed(b)
 }
 
+#[tactic(auto, unfolding(crate::specs::Format::complete_well))]
 fn complete_well(b: &[u8]) -> bool
     requires { 8 ≤ length b.now }
     ensures { result ≡ complete_well b.now }
@@ -94,6 +97,7 @@ fn complete_well(b: &[u8]) -> bool
     b.len() == 24
 }
 
+#[tactic(auto, unfolding(crate::specs::Format::well_formed))]
 pub fn is_well_formed(b: &[u8]) -> bool
     ensures { result ≡ well_formed b.now }
 {
