@@ -23,7 +23,7 @@ pub enum CallCause {
     SecondPlan(Cause),
 }
 
-#[derive(Drop)]
+#[derive(Clone, Copy)]
 pub enum CallVerdict {
     Accepted,
     Refused(CallCause),

@@ -17,14 +17,14 @@ pub struct Links {
 }
 
 // The marks of the links, and a closed set.
-#[derive(Drop)]
+#[derive(Clone, Copy)]
 pub struct Found {
     pub marks: [u8; 64],
     pub inside: u64,
 }
 
 // Whether the keeper wins as the second and as the first to move; the tree of each link and the group of each node.
-#[derive(Drop)]
+#[derive(Clone, Copy)]
 pub struct Answer {
     pub second: bool,
     pub first: bool,
@@ -33,7 +33,7 @@ pub struct Answer {
 }
 
 // A link, the forest that takes it and its level; or a closed set.
-#[derive(Drop)]
+#[derive(Clone, Copy)]
 pub enum Search {
     Place(usize, u8, usize),
     Closed(u64),

@@ -34,7 +34,7 @@ pub fn put_in(at: &mut [u64; 32], x: u8, i: usize)
 // The links at node gone are at keep. Answers which they were.
 pub fn merge(at: &mut [u64; 32], keep: u8, gone: u8) -> u64
     requires { (length at.old ≡ 32) × (keep < 32) × (gone < 32) }
-    ensures result_value { members result ≡ members (get_or at.old gone 0) }
+    ensures moved { members result ≡ members (get_or at.old gone 0) }
     ensures merged { Merged keep gone at.old at.new }
 {
     let k = keep as usize;

@@ -26,14 +26,14 @@ pub enum Cause {
     Value(u16),
 }
 
-#[derive(Drop)]
+#[derive(Clone, Copy)]
 pub enum Verdict {
     Accepted,
     Refused(Cause),
 }
 
 // What a value in the file stands for.
-#[derive(Drop)]
+#[derive(Clone, Copy)]
 pub enum Rated {
     Units(u32),
     OfLength(usize),

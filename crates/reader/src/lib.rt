@@ -5,7 +5,7 @@ ghost use Rattle.std.specs.Prelude.{◌≡◌, ◌+◌, ◌*◌, ◌≤◌, ◌<
 ghost use Rattle.words.specs.Words.{byte, word16, word32};
 ghost use Rattle.reader.specs.Layout.{size_n, size_m, first_end, second_end, file_value};
 
-#[derive(Drop)]
+#[derive(Clone, Copy)]
 pub struct Sizes {
     pub n: u16,
     pub m: u16,
@@ -19,7 +19,7 @@ pub struct Reader<'a> {
 }
 
 // A link as it stands in the file.
-#[derive(Drop)]
+#[derive(Clone, Copy)]
 pub struct Entry {
     pub a: u8,
     pub b: u8,

@@ -1,6 +1,6 @@
 -- Choosing all nodes gives document 01's rule: the same tree, so the same figures to the unit and the same splits; what holds of the
 -- rule for chosen nodes holds of document 01's.
-use Prim.Native.Nat.{ℕ, suc, ◌≤◌, ◌<◌, min, max}
+use Prim.Native.Nat.{ℕ, ◌<◌, min, max}
 use mathlib.Core.Path.{◌≡◌, refl, sym, ap, ap₂, ◌∙◌, subst}
 use mathlib.Core.List.Memᴰ
 use mathlib.Core.List.{List, [], ◌∷◌, map, Memᴰ}
@@ -12,7 +12,6 @@ use native.Mathlib.Omega.{arith}
 use lib.Dec.{eqb, leb}
 use lib.ListN.{length}
 use borrow.Author.Tests.{leb-false}
-use Rattle.rounding.specs.Rounding.{S}
 use Rattle.rounding.specs.declared.Direction.{Direction}
 use Rattle.reliability.specs.declared.Link.{Link}
 use Rattle.reliability.specs.declared.Step.{Step}

@@ -15,7 +15,7 @@ use Rattle.reliability.specs.Terminals.{Terminals, among, end_left, sound_left}
 use Rattle.reliability.specs.Simple.{anchors, Connected, side_by_side}
 use Rattle.reliability.proofs.Lists.{by_eqb, length-delete, getD-mem, getD-delete, mem-delete, delete-set, set-mem-new, set-mem-other, mem-other, mem-without}
 use Rattle.reliability.proofs.Connection.{join, turn, connected-means}
-use Rattle.reliability.proofs.States.{Joins, Off, rename-gone, rename-other, Onto}
+use Rattle.reliability.proofs.States.{Joins, Off, rename-gone, rename-other}
 use Rattle.reliability.proofs.Validity.{larger-smaller, mem-joined}
 use Rattle.reliability.proofs.Steps.{Leg, AtPair, AtEnd, AtSeries, AtSplit}
 use Rattle.reliability.proofs.Chosen.{into-onto}

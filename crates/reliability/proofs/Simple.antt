@@ -8,7 +8,7 @@ use mathlib.Core.Logic.{◌⊎◌, inl, inr, ⊎_elim}
 use mathlib.Core.Option.{Option, some, none}
 use native.Mathlib.Nat.{not-suc-le-zero, le_of_suc-le-suc, le_refl, le_of_eq}
 use native.Mathlib.Omega.{arith}
-use lib.Dec.{eqb, leb}
+use lib.Dec.{leb}
 use lib.ListN.{length, set, length-set}
 use lib.Seq.{lt-length-set}
 use borrow.Author.Tests.{leb-true, eqb-false, ne_eqb, le-leb}
@@ -20,7 +20,7 @@ use Rattle.reliability.specs.declared.Step.TheVariants.{OneNode, End, Series, Sp
 use Rattle.reliability.specs.Networks.{Network, Valid, ends, link_at, connected}
 use Rattle.reliability.specs.Rule.{is_loop, delete_at, first_at, first_pair, lowest, end_of, when, ◌otherwise◌, Remainder, settled, rest, scaled, branches, deleted, joined, in_parallel, rename, renamed, across, ready}
 use Rattle.reliability.specs.Terminals.{Terminals, among, Chosen, has, astray, series_in, next_at, split_at, next, in_line, end_left, series_left, sound_left, broken_left, factored, leaves, tree}
-use Rattle.reliability.specs.Simple.{Loopless, Pairless, anchors, Connected, Plain, Simple, side_by_side, joined_pairs, unpaired, dropping, without_loops}
+use Rattle.reliability.specs.Simple.{Loopless, Pairless, anchors, Connected, Plain, Simple, side_by_side, joined_pairs, unpaired, without_loops}
 use Rattle.reliability.proofs.Lists.{by_eqb, length-delete, mem-delete, getD-mem, getD-delete}
 use Rattle.reliability.proofs.Connection.{connected-within}
 use Rattle.reliability.proofs.Searches.{Answers, Holds, Fails, first-at, nth, none_found, Pair, Distinct, first-pair, no-pair, distinct-delete}

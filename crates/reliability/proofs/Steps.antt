@@ -1,5 +1,5 @@
 -- What is known where a step fits.
-use Prim.Native.Nat.{ℕ, ◌≤◌, ◌<◌, zero-le, suc-le-suc}
+use Prim.Native.Nat.{ℕ, ◌<◌, zero-le, suc-le-suc}
 use mathlib.Core.Path.{◌≡◌, refl, sym, ap, ◌∙◌}
 use mathlib.Core.List.{List, [], ◌∷◌, map, Memᴰ}
 use mathlib.Core.Bool.{Bool, true, false, cond, not, ◌&&◌, ◌||◌, true≢false, and-eq-true_iff, or-true as or-true_right}
@@ -10,16 +10,15 @@ use native.Mathlib.Nat.{not-suc-le-zero}
 use native.Mathlib.Omega.{arith}
 use lib.Dec.{eqb, leb}
 use lib.ListN.{length}
-use borrow.Author.Tests.{eqb-true, eqb-false, eq-eqb, leb-true, leb-false}
+use borrow.Author.Tests.{eqb-true, eqb-false, eq-eqb}
 use Rattle.reliability.specs.declared.Link.{Link}
 use Rattle.reliability.specs.declared.Step.{Step}
-use Rattle.reliability.specs.declared.Step.TheVariants.{OneNode, Disconnected, Loop, Parallel, End, Series, Split}
-use Rattle.reliability.specs.Networks.{Network, Ascending, Valid, ends, link_at, label, every, connected, pieces_of}
-use Rattle.reliability.specs.Rule.{is_loop, touches, alike, first_at, first_pair, places, lowest, end_of, series_of, when, ◌otherwise◌, next_at, first_link, chosen, next, delete_at, across, leaves, step_at}
+use Rattle.reliability.specs.declared.Step.TheVariants.{OneNode, Disconnected, Loop, Parallel, Split}
+use Rattle.reliability.specs.Networks.{Network, Ascending, ends, link_at, label, every, connected, pieces_of}
+use Rattle.reliability.specs.Rule.{is_loop, touches, alike, first_at, first_pair, lowest, end_of, series_of, when, ◌otherwise◌, next_at, first_link, chosen, delete_at, across, leaves, step_at}
 use Rattle.reliability.proofs.Lists.{or-true, getD-mem}
-use Rattle.reliability.proofs.Pieces.{one_piece}
 use Rattle.reliability.proofs.Lawful.{Uniform, View, Place}
-use Rattle.reliability.proofs.Searches.{Answers, Holds, Fails, first-at, Placed, Pair, Distinct, first-pair, lowest-of}
+use Rattle.reliability.proofs.Searches.{Holds, Fails, Placed, Pair}
 use Rattle.reliability.proofs.LargestSum.{at-largest}
 use Rattle.reliability.proofs.States.{Joins, Off}
 

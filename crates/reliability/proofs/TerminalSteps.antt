@@ -12,15 +12,15 @@ use native.Mathlib.Omega.{arith}
 use lib.Dec.{leb}
 use lib.ListN.{length}
 use borrow.Author.Tests.{eqb-true, leb-true, leb-false}
-use Rattle.rounding.specs.Rounding.{S, product, series}
+use Rattle.rounding.specs.Rounding.{S, series}
 use Rattle.rounding.specs.declared.Direction.{Direction}
-use Rattle.rounding.specs.declared.Direction.TheVariants.{Down, Up}
+use Rattle.rounding.specs.declared.Direction.TheVariants.{Up}
 use Rattle.rounding.proofs.Operations.{product-range, product-order, series-range, series-order, factor-range}
 use Rattle.reliability.specs.declared.Link.{Link}
 use Rattle.reliability.specs.declared.Step.{Step}
 use Rattle.reliability.specs.declared.Step.TheVariants.{OneNode, Disconnected, Loop, Parallel, End, Series, Split}
-use Rattle.reliability.specs.Networks.{Network, Ascending, Proper, value, ends, link_at, connected}
-use Rattle.reliability.specs.Rule.{is_loop, touches, first_at, first_pair, places, lowest, end_of, when, ◌otherwise◌, without, deleted, removed, joined, across, Remainder, settled}
+use Rattle.reliability.specs.Networks.{Network, Ascending, Proper, ends, link_at, connected}
+use Rattle.reliability.specs.Rule.{is_loop, touches, first_at, first_pair, places, lowest, end_of, when, ◌otherwise◌, without, deleted, removed, joined, across, settled}
 use Rattle.reliability.specs.Terminals.{Terminals, among, Chosen, has, into, astray, between, series_in, next_at, split_at, next, in_line, end_left, series_left, sound_left, factored, leaves, step_at}
 use Rattle.reliability.proofs.Lists.{mem-without, without-mem}
 use Rattle.reliability.proofs.Searches.{Answers, Holds, Fails, first-at, Placed, Pair, Distinct, first-pair, lowest-of}
@@ -29,7 +29,7 @@ use Rattle.reliability.proofs.Validity.{ascending-without, proper-at, across-nod
 use Rattle.reliability.proofs.Lawful.{Leaves, Uniform, View, Place, Sized, Choice}
 use Rattle.reliability.proofs.Steps.{AtLoop, AtPair, AtEnd, AtSeries, AtSplit, at_pair, at-end, at-series, at_split, chosen-link, UniformStep, uniform-otherwise}
 use Rattle.reliability.proofs.Remainders.{SizedNetwork, deleted-sized, joined-sized, end-sized, across-sized, contracted-sized}
-use Rattle.reliability.proofs.Chosen.{has-mem, has-out, into-onto, into-ascending}
+use Rattle.reliability.proofs.Chosen.{has-mem, into-onto, into-ascending}
 
 abbrev pub view : View Terminals
 view = record { links = λ g. g.network.links; nodes = λ g. g.network.nodes; terminals = λ g. g.chosen }

@@ -9,7 +9,7 @@ use Rattle.rounding.specs.Rounding.{S}
 use Rattle.rounding.specs.declared.Direction.TheVariants.{Up}
 use Rattle.reliability.specs.Networks.{ends, connected}
 use Rattle.reliability.specs.Exact.{Weighted, sum, total, AllEnclosed, altogether}
-use Rattle.reliability.specs.Rule.{ready, bounded, run}
+use Rattle.reliability.specs.Rule.{bounded, run}
 use Rattle.reliability.specs.Terminals.{Terminals, Chosen, step_at, split_at, tree, figure, needed}
 use Rattle.reliability.proofs.Runs.{steps, finished}
 use Rattle.reliability.proofs.Promises as rule

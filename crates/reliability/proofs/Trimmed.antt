@@ -11,13 +11,12 @@ use native.Mathlib.Omega.{arith}
 use lib.ListN.{length}
 use borrow.Author.Tests.{eqb-true, eqb-false, lt-leb}
 use Rattle.reliability.specs.declared.Link.{Link}
-use Rattle.reliability.specs.Networks.{Network, Ends, ends, link_at, label, connected, Path}
-use Rattle.reliability.specs.Rule.{is_loop, first_at, delete_at, rest}
+use Rattle.reliability.specs.Networks.{Ends, ends, link_at, label, connected, Path}
+use Rattle.reliability.specs.Rule.{first_at, delete_at, rest}
 use Rattle.reliability.specs.Terminals.{Terminals, among, Chosen, astray, split_at, next, broken_left, leaves, tree}
 use Rattle.reliability.specs.Simple.{Loopless, Pairless, anchors, Connected, Plain, trimmed}
-use Rattle.reliability.proofs.Lists.{not-true-false, length-delete, mem-delete}
 use Rattle.reliability.proofs.Connection.{Const, join, turn, label-const, connected-means, connected-sound, connected-complete, connected-eq, one_more}
-use Rattle.reliability.proofs.Searches.{Answers, Holds, Fails, first-at, nth, none_found}
+use Rattle.reliability.proofs.Searches.{Answers, Holds, Fails, first-at, nth}
 use Rattle.reliability.proofs.States.{idle-connected}
 use Rattle.reliability.proofs.TerminalSteps.{AtAstray, not-true, next-by}
 use Rattle.reliability.proofs.Unrolled.{Below, tree-rest, below_rest}

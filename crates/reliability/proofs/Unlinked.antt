@@ -12,9 +12,9 @@ use Rattle.rounding.specs.declared.Direction.{Direction}
 use Rattle.reliability.specs.declared.Link.{Link}
 use Rattle.reliability.specs.declared.Step.{Step}
 use Rattle.reliability.specs.declared.Step.TheVariants.{OneNode, Disconnected, Loop, Parallel, End, Series, Split}
-use Rattle.reliability.specs.Networks.{link_at, ends, connected}
-use Rattle.reliability.specs.Rule.{is_loop, touches, places, first_at, first_pair, lowest, end_of, when, ◌otherwise◌, largest_sum, without, removed, branches}
-use Rattle.reliability.specs.Terminals.{Terminals, among, Chosen, has, astray, series_in, next_at, end_left, series_left, sound_left, broken_left, factored, leaves, step_at, split_at, tree}
+use Rattle.reliability.specs.Networks.{ends, connected}
+use Rattle.reliability.specs.Rule.{is_loop, touches, places, first_at, first_pair, lowest, end_of, when, ◌otherwise◌, largest_sum, without, removed}
+use Rattle.reliability.specs.Terminals.{Terminals, among, Chosen, has, astray, series_in, next_at, end_left, series_left, factored, leaves, step_at, split_at, tree}
 use Rattle.reliability.proofs.Lists.{by_eqb, mem-without, without-mem}
 use Rattle.reliability.proofs.Searches.{Fails}
 use Rattle.reliability.proofs.Validity.{removed-valid}

@@ -20,7 +20,7 @@ pub struct Figure {
 }
 
 // A difference of two figures.
-#[derive(Drop)]
+#[derive(Clone, Copy)]
 pub struct Difference {
     pub low: i32,
     pub high: i32,
@@ -29,7 +29,7 @@ pub struct Difference {
 }
 
 // The step of the rule that fits a network: link places are counted from 0 among the links then left.
-#[derive(Drop)]
+#[derive(Clone, Copy)]
 pub enum Step {
     OneNode,
     Disconnected,

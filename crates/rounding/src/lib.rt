@@ -14,7 +14,7 @@ pub enum Direction {
     Up,
 }
 
-#[derive(Drop)]
+#[derive(Clone, Copy)]
 pub struct Division {
     pub quotient: u64,
     pub remainder: u64,

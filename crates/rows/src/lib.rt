@@ -93,9 +93,9 @@ pub fn closed(
     sound: Carried,
     broken: Carried,
 ) -> Carried
-    requires k_bound { (k < 64) × (length row.old ≡ 192) }
-    requires low_bound { (e.low ≤ S) × (e.high ≤ S) × (sound.figure.low ≤ S) × (sound.figure.high ≤ S) × (broken.figure.low ≤ S) × (broken.figure.high ≤ S) }
-    requires steps_bound { (own + (sound.figure.steps + broken.figure.steps) < 2 ^ 32) × (sound.aside ≤ 64) × (broken.aside ≤ 64) }
+    requires room { (k < 64) × (length row.old ≡ 192) }
+    requires chances { (e.low ≤ S) × (e.high ≤ S) × (sound.figure.low ≤ S) × (sound.figure.high ≤ S) × (broken.figure.low ≤ S) × (broken.figure.high ≤ S) }
+    requires counts { (own + (sound.figure.steps + broken.figure.steps) < 2 ^ 32) × (sound.aside ≤ 64) × (broken.aside ≤ 64) }
     ensures figure_value { result.figure ≡ more own (mixed e sound.figure broken.figure) }
     ensures aside_value { result.aside ≡ own_count sound.figure broken.figure sound.aside broken.aside }
     ensures row_after { row.new ≡ sets row.old (3 * k) (own_entry place sound.figure broken.figure) }

@@ -5,13 +5,13 @@ ghost use Rattle.std.specs.Prelude.{◌≡◌, cond, ◌&&◌, ℕ, ◌+◌, ◌
 ghost use Rattle.bits.specs.Members.{members, how_many};
 ghost use Rattle.search.specs.Searches.{places_in, Incidence, Bounded, found, loops, beside, pair_in, with_links, between_at, in_line, counts_of, count_sum, largest_in};
 
-#[derive(Drop)]
+#[derive(Clone, Copy)]
 pub enum Found {
     At(usize),
     Nothing,
 }
 
-#[derive(Drop)]
+#[derive(Clone, Copy)]
 pub enum Pair {
     Both(usize, usize),
     Neither,

@@ -13,7 +13,7 @@ use network::Network;
 use search::Found;
 
 // What is left of a network once steps 1 to 4 fit no more: where it is settled its figure, else a simple network.
-#[derive(Drop)]
+#[derive(Clone, Copy)]
 pub struct Begun {
     pub settled: bool,
     pub value: u32,

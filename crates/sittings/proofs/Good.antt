@@ -3,7 +3,6 @@ use Prim.Native.Nat.{ℕ, zero, suc, ◌+◌, ◌-◌, ◌≤◌, min}
 use mathlib.Core.Path.{◌≡◌, refl, sym, ap, ap₂, ◌∙◌, subst}
 use mathlib.Core.List.{List, [], ◌∷◌}
 use mathlib.Core.Bool.{Bool, true, false, cond, ◌&&◌, ◌||◌, true≢false, false≢true}
-use mathlib.Core.Logic.{inl, inr}
 use native.Mathlib.Omega.{arith}
 use lib.Dec.{eqb}
 use borrow.Author.Tests.{eq-eqb}
@@ -14,12 +13,12 @@ use Rattle.reliability.specs.declared.Link.{Link}
 use Rattle.reliability.specs.declared.Figure.{Figure}
 use Rattle.reliability.specs.Networks.{value}
 use Rattle.reliability.specs.Exact.{altogether}
-use Rattle.reliability.specs.Rule.{Remainder, settled, rest, scaled, branches, Tree, ready, multiplied, fork, taken, grown, is_split, tree_of, bounded, side, mixed, run, budget}
+use Rattle.reliability.specs.Rule.{Remainder, settled, rest, scaled, branches, Tree, ready, multiplied, fork, taken, grown, is_split, tree_of, bounded, side, run, budget}
 use Rattle.reliability.proofs.Lawful.{Leaves, all_alike, same_step, View, Place, Sized, Lawful, Choice}
 use Rattle.reliability.proofs.Runs.{side-bounded, Ranged, range}
 use Rattle.reliability.proofs.Enclosure.{Encloses, Figured, Says, says, encloses, ranged}
 use Rattle.reliability.proofs.Weights.{near-weights, low-below-high, total-pos, gaps, low-enclosed}
-use Rattle.sittings.specs.Sittings.{Open, running, known, place_of, sides, opened, opens, resumed, traced}
+use Rattle.sittings.specs.Sittings.{Open, running, known, place_of, sides, opens, resumed, traced}
 use Rattle.sittings.specs.Entries.{Known, InRange, InOrder}
 use Rattle.sittings.proofs.Bounds.{by-opened}
 

@@ -4,7 +4,7 @@
 use reliability::Figure;
 
 // The figure of a run, and how many open splits it sets aside.
-#[derive(Drop)]
+#[derive(Clone, Copy)]
 pub struct Carried {
     pub figure: Figure,
     pub aside: usize,

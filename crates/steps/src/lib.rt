@@ -10,7 +10,7 @@ ghost use Rattle.steps.specs.Simple.{step_of, split_on};
 use search::Found;
 
 // The step that fits a simple network: one chosen node is left, an end, two links in series, or a split.
-#[derive(Drop)]
+#[derive(Clone, Copy)]
 pub enum Next {
     OneNode,
     End(usize, usize),

@@ -14,8 +14,8 @@ use Rattle.reliability.specs.declared.Figure.{Figure}
 use Rattle.reliability.specs.declared.Step.TheVariants.{End, Series, Split}
 use Rattle.reliability.specs.Networks.{value}
 use Rattle.reliability.specs.Rule.{across, Tree, ready, multiplied, fork, more, mixed, bounded, times}
-use Rattle.reliability.specs.Terminals.{Terminals, among, has as listing, end_left, series_left, sound_left, broken_left, tree}
-use Rattle.reliability.specs.Simple.{Loopless, Pairless, Plain, unpaired}
+use Rattle.reliability.specs.Terminals.{Terminals, has as listing, end_left, series_left, sound_left, broken_left, tree}
+use Rattle.reliability.specs.Simple.{Loopless, Pairless, Plain}
 use Rattle.search.specs.Searches.{ends_in}
 use Rattle.pieces.specs.Pieces.{PieceOf}
 use Rattle.simple.specs.Begins.{ChosenPiece}
@@ -24,14 +24,14 @@ use Rattle.reliability.proofs.Runs.{Ranged}
 use Rattle.reliability.proofs.Unrolled.{Below}
 use Rattle.network.specs.declared.Network.{Network}
 use Rattle.network.specs.Places.{row_of as linkRow, links_of, network_of, terminals_of, chosen_of, index_of, link_of, Invariant, Used, Sized, Fitting, assembled}
-use Rattle.network.proofs.Kept.{chosen-of, ends-below, across-below}
+use Rattle.network.proofs.Kept.{ends-below, across-below}
 use Rattle.search.proofs.Sets.{listed_has}
 use Rattle.steps.specs.declared.Next.{Next}
 use Rattle.steps.specs.declared.Next.TheVariants.{OneNode as One, End as Ended, Series as InSeries, Split as Splitting}
 use Rattle.network.specs.Workable.{Workable}
 use Rattle.steps.specs.Simple.{step_of}
 use Rattle.network.proofs.Made.{sized_of, fewer, unpaired-work, unpaired-same, unpaired-less, unpaired-few}
-use Rattle.steps.proofs.Arms.{Within, moved-fits, link-within, one-tree, link-is, end_below, end-tree, last_end, end-work, series-left, series-below, series-tree, works, at-link, split-work, sound-left, sound-below, broken-below, split-tree, several, broken-is, broken-sized, broken-loopless, broken-pairless}
+use Rattle.steps.proofs.Arms.{Within, link-within, one-tree, link-is, end_below, end-tree, last_end, end-work, series-left, series-below, series-tree, works, at-link, split-work, sound-left, sound-below, broken-below, split-tree, several, broken-is, broken-sized, broken-loopless, broken-pairless}
 use Rattle.simple.proofs.Keeping.{piece-asked, outside-fits}
 use Rattle.simple.proofs.Broken.{broken-apart, broken-work, broken-same, broken-few as links-kept}
 use Rattle.sittings.specs.declared.Carried.{Carried}
@@ -565,9 +565,9 @@ run-closed-requires t d =
     let high = ap (λ (g : Figure). g.high) z in
     let steps = ap (λ (g : Figure). g.steps) z in
     record {
-      k_bound = (row_room t (goal.at.run-closed-requires t d).After-stopped, sound-size t (goal.at.run-closed-requires t d).Joined-known);
-      low_bound = (e.0, e.1, f.low, f.high, omega (arith, low), omega (arith, high));
-      steps_bound = (omega (arith, f.steps, steps, own-within t (goal.at.run-closed-requires t d).Joined-known, d.requires.workable.1), sound-count t (goal.at.run-closed-requires t d).Joined-known, omega (arith, d.whole-none.ensures.1));
+      room = (row_room t (goal.at.run-closed-requires t d).After-stopped, sound-size t (goal.at.run-closed-requires t d).Joined-known);
+      chances = (e.0, e.1, f.low, f.high, omega (arith, low), omega (arith, high));
+      counts = (omega (arith, f.steps, steps, own-within t (goal.at.run-closed-requires t d).Joined-known, d.requires.workable.1), sound-count t (goal.at.run-closed-requires t d).Joined-known, omega (arith, d.whole-none.ensures.1));
     }
 
 pub run-returns-then-difference-ne0 : goal.run-returns-then-difference-ne0
@@ -642,9 +642,9 @@ run-closed-requires-in-Split t c =
     let h = worked-bounded (broken-bounds t (goal.at.run-closed-requires-in-Split t c).After-is_known-known) (broken-worked t (goal.at.run-closed-requires-in-Split t c).After-run-broken) in
     let o = broken-open t (goal.at.run-closed-requires-in-Split t c).After-is_known-known (limit t (goal.at.run-closed-requires-in-Split t c).After-is_known-known - own t (goal.at.run-closed-requires-in-Split t c).After-is_known-known - c.if-known.sound.figure.steps) in
     record {
-      k_bound = (row_room t (goal.at.run-closed-requires-in-Split t c).After-stopped, worked-size (sound-size t (goal.at.run-closed-requires-in-Split t c).Joined-known) (broken-worked t (goal.at.run-closed-requires-in-Split t c).After-run-broken));
-      low_bound = (e.0, e.1, omega (arith, f.low, h.low), omega (arith, f.high, h.high), omega (arith, f.low, h.low), omega (arith, f.high, h.high));
-      steps_bound = (omega (arith, f.steps, h.steps, own-within t (goal.at.run-closed-requires-in-Split t c).Joined-known, c.requires.workable.1), omega (arith, sound-count t (goal.at.run-closed-requires-in-Split t c).Joined-known, (broken-worked t (goal.at.run-closed-requires-in-Split t c).After-run-broken).count, o), omega (arith, sound-count t (goal.at.run-closed-requires-in-Split t c).Joined-known, (broken-worked t (goal.at.run-closed-requires-in-Split t c).After-run-broken).count, o));
+      room = (row_room t (goal.at.run-closed-requires-in-Split t c).After-stopped, worked-size (sound-size t (goal.at.run-closed-requires-in-Split t c).Joined-known) (broken-worked t (goal.at.run-closed-requires-in-Split t c).After-run-broken));
+      chances = (e.0, e.1, omega (arith, f.low, h.low), omega (arith, f.high, h.high), omega (arith, f.low, h.low), omega (arith, f.high, h.high));
+      counts = (omega (arith, f.steps, h.steps, own-within t (goal.at.run-closed-requires-in-Split t c).Joined-known, c.requires.workable.1), omega (arith, sound-count t (goal.at.run-closed-requires-in-Split t c).Joined-known, (broken-worked t (goal.at.run-closed-requires-in-Split t c).After-run-broken).count, o), omega (arith, sound-count t (goal.at.run-closed-requires-in-Split t c).Joined-known, (broken-worked t (goal.at.run-closed-requires-in-Split t c).After-run-broken).count, o));
     }
 
 pub run-returns-else-difference-ne0 : goal.run-returns-else-difference-ne0

@@ -12,17 +12,17 @@ use Rattle.reliability.specs.Rule.{multiplied, fork, Tree}
 use Rattle.reliability.specs.Terminals.{Terminals, has as listing, end_left, series_left, sound_left, broken_left, tree}
 use Rattle.reliability.specs.Simple.{Plain}
 use Rattle.network.specs.declared.Network.{Network}
-use Rattle.network.specs.Places.{rank, links_of, terminals_of, chosen_of, index_of, Invariant, Used, Fitting, assembled}
+use Rattle.network.specs.Places.{rank, links_of, terminals_of, chosen_of, index_of, Used, Fitting, assembled}
 use Rattle.steps.specs.declared.Next.{Next}
 use Rattle.steps.specs.declared.Next.TheVariants.{OneNode as One, End as Ended, Series as InSeries, Split as Splitting}
 use Rattle.network.specs.Workable.{Workable}
 use Rattle.steps.specs.Simple.{step_of, split_on}
 use Rattle.network.proofs.Made.{sized_of, fewer, unpaired-work, unpaired-same, unpaired-less, unpaired-few}
-use Rattle.steps.proofs.Arms.{moved-fits, one-tree, end_below, end-work, end-tree, series-left, series-below, series-tree, works, at-link, split-work, sound-left, sound-below, broken-below, split-tree}
+use Rattle.steps.proofs.Arms.{one-tree, end_below, end-work, end-tree, series-left, series-below, series-tree, works, at-link, split-work, sound-left, sound-below, broken-below, split-tree}
 use Rattle.steps.proofs.Places.{split-used}
 use Rattle.sittings.specs.Sittings.{Open, traced}
 use Rattle.sittings.specs.Entries.{opens_in}
-use Rattle.tracing.proofs.Laws.{traced-factored, traced-none, traced-ready, known_by, traced-elsewhere, traced-here, on-link, off-link, one_left}
+use Rattle.tracing.proofs.Laws.{traced-factored, traced-none, traced-ready, known_by, traced-elsewhere, traced-here, on-link, off-link}
 use Rattle.tracing.proofs.+follow.Goals as goal
 use Rattle.tracing.proofs.+follow.Goals.{follow-After-is_known, follow-After-split_on-i, follow-After-step, follow-In-End, follow-In-Series, follow-In-Split}
 

@@ -47,5 +47,5 @@ returns c =
     let higher = c.higher-gone in
     let lower = c.lower-keep in
     let k = contracts c.args.self (sized (goal.at.returns c).Start) c.requires.0 c.args.i c.requires.1 c.requires.2 lower.result higher.result lower.ensures higher.ensures c.without-alive.result c.without_node-nodes.result c.into-chosen.result m.result one.new.at two.new.at m.new.at x.new.ends y.new.ends
-    c.without-alive.ensures c.without_node-nodes.ensures c.into-chosen.ensures one.ensures two.ensures m.ensures.result_value m.ensures.merged x.ensures y.ensures in
+    c.without-alive.ensures c.without_node-nodes.ensures c.into-chosen.ensures one.ensures two.ensures m.ensures.moved m.ensures.merged x.ensures y.ensures in
     (k.0, k.1, c.without-alive.ensures)
