@@ -1,4 +1,4 @@
-//! Links the static libraries of libraries.txt, which `rt staticlib` has written to the repository's target folder, or those in
+//! Links the static libraries of libraries.txt, which `build` has written to the repository's target folder, or those in
 //! the folder that the variable LIBRARIES names; and compiles the rule in C and links it.
 
 use std::env;
@@ -24,10 +24,7 @@ fn link_the_libraries() {
     for name in lines.filter(|line| !line.starts_with('#')) {
         let archive = folder.join(format!("lib{name}.a"));
         println!("cargo:rerun-if-changed={}", archive.display());
-        let missing = format!(
-            "{} is missing: rt staticlib {name} writes it",
-            archive.display()
-        );
+        let missing = format!("{} is missing: ./build {name} writes it", archive.display());
         assert!(archive.exists(), "{missing}");
         println!("cargo:rustc-link-lib=static={name}");
     }

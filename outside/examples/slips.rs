@@ -834,9 +834,10 @@ fn write_libraries(folder: &Path) {
     }
 }
 
-/// The test programs of the gate, the documents, the arithmetic and the listing program, which do not make the calls.
-const APART: [&str; 6] = [
+/// The test programs of the gate, the building, the documents, the arithmetic and the listing program, which do not make the calls.
+const APART: [&str; 7] = [
     "gate",
+    "build",
     "readme",
     "rounding",
     "ratings",

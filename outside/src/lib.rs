@@ -19,6 +19,7 @@ pub mod programs;
 pub mod random;
 pub mod repository;
 pub mod rule;
+pub mod scripts;
 pub mod sittings;
 pub mod states;
 pub mod tables;

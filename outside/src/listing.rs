@@ -50,7 +50,7 @@ pub fn by_the_calls(plan: &[u8]) -> String {
 /// reading before the last.
 pub fn written(parts: &[&[u8]]) -> String {
     let program = path("target/bin/planlist");
-    let missing = "target/bin/planlist is missing: rt check planlist writes it";
+    let missing = "target/bin/planlist is missing: ./build planlist writes it";
     assert!(program.exists(), "{missing}");
     let mut command = Command::new(program);
     command.stdin(Stdio::piped()).stdout(Stdio::piped());

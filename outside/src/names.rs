@@ -18,13 +18,13 @@ fn entries(folder: &Path) -> Vec<PathBuf> {
     paths
 }
 
-/// The file itself, or all files of a folder and of those in it, but for what is built.
+/// The file itself, or all files of a folder and of those in it, but for what cargo or the kit builds.
 pub fn files(place: &Path) -> Vec<PathBuf> {
     if place.is_file() {
         return vec![place.to_owned()];
     }
     let inner = entries(place).into_iter();
-    let inner = inner.filter(|inner| !inner.ends_with("target"));
+    let inner = inner.filter(|inner| !inner.ends_with("target") && !inner.ends_with("out"));
     inner.flat_map(|inner| files(&inner)).collect()
 }
 

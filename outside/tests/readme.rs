@@ -13,7 +13,7 @@ const DOCUMENTS: [&str; 2] = ["README.md", "docs/READING.md"];
 const DEMANDS: &str = "docs/DEMANDS.md";
 
 /// Words in backticks that are neither files nor declared: of the kit.
-const WORDS: [&str; 2] = ["rt", "io"];
+const WORDS: [&str; 3] = ["rt", "io", "std"];
 
 struct Example {
     line: usize,
@@ -46,11 +46,11 @@ fn examples(document: &str) -> Vec<Example> {
     all
 }
 
-/// Runs them in order at the root of the repository. The commands of the kit build what is tested, and are not run again.
+/// Runs them in order at the root of the repository. What is tested is built already, and not built again.
 fn run(name: &str) {
     let document = String::from_utf8(bytes(name)).unwrap();
     let examples = examples(&document);
-    let runs = |e: &&Example| !e.command.starts_with("rt ");
+    let runs = |e: &&Example| !e.command.starts_with("./build ");
     assert!(examples.iter().any(|e| runs(&e)), "{name} has no example");
     for example in examples.iter().filter(runs) {
         let mut shell = Command::new("sh");
@@ -270,6 +270,8 @@ fn wrong_names(document: &str, names: &Names) -> Vec<String> {
 #[test]
 fn files_and_names_exist() {
     let names = Names::read();
+    // What is built declares nothing.
+    assert!(!names.known("libdesk"));
     let mut documents = ["README.md", "outside/README.md"]
         .map(str::to_owned)
         .to_vec();
