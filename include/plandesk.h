@@ -59,9 +59,10 @@
    a table or saved work. It allocates nothing and keeps nothing, so it is safe from several threads at once; each needs a
    stack of 512 KiB for it.
 
-   How long a call takes goes by its steps. At the limit of 1,000,000 the mesh of 32 nodes and 64 links (plans/mesh.plan)
-   took figure about 0.4 seconds on one core of x86-64, and importance and difference, which work two networks, up to 0.8.
-   The slowest of 400 random plans took about as long a step. A sitting takes about as long as a figure under its limit:
+   How long a call takes goes by its steps. The times here were taken with the library as an older compiler made it, and
+   not anew. At the limit of 1,000,000 the mesh of 32 nodes and 64 links (plans/mesh.plan) took figure about 0.4 seconds
+   on one core of x86-64, and importance and difference, which work two networks, up to 0.8. The slowest of 400 random
+   plans took about as long a step. A sitting takes about as long as a figure under its limit:
    about 0.4 seconds for a first sitting of the mesh at 1,000,000. A later one walks down the open splits first, which
    with 55 of them took less than a ten-thousandth of a second. A table took figure less than a millionth of a second
    more. A call cannot be stopped; a smaller limit ends it sooner. Counts and game have no steps and no limit: the
