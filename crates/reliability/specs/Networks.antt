@@ -93,7 +93,7 @@ unfoldable pub last_of_each : List ℕ → List Ends → List ℕ
 last_of_each [] t = []
 last_of_each (v ∷ vs) t = elim (every (λ u. not (together t u v)) vs) [ true ↦ v ∷ last_of_each vs t | false ↦ last_of_each vs t ]
 
--- how many pieces the links t leave the nodes in; one means that they connect the nodes (one-piece in proofs/Pieces.antt)
+-- how many pieces the links t leave the nodes in; one means that they connect the nodes (one_piece in proofs/Pieces.antt)
 abbrev pub pieces : List ℕ → List Ends → ℕ
 pieces vs t = length (last_of_each vs t)
 

@@ -42,7 +42,7 @@ unfoldable pub split : Direction → ℕ → ℕ → ℕ → ℕ
 split d p sound broken = quotient d (p * sound + (S - p) * broken) S
 
 -- the decimal digits that the long division of x by w works: the fewest k up to n such that w divides 10 ^ k * x, else n
--- (at-most, divides, none-below in proofs/FewestDigits.antt)
+-- (at_most, divides, none_below in proofs/FewestDigits.antt)
 unfoldable pub fewest_digits : ℕ → ℕ → ℕ → ℕ
 fewest_digits zero x w = 0
 fewest_digits (suc n) x w = cond (eqb (x % w) 0) 0 (suc (fewest_digits n (10 * x) w))

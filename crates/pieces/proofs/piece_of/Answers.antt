@@ -54,16 +54,8 @@ ends c =
 pub bounds-a-k : goal.bounds-a-k
 bounds-a-k c = (place (goal.at.bounds-a-k c).After-lowest-k).0
 
--- left: no goal of today has this name
--- cast-x : tie.Need-overflow-cast-x invariant-loop decreases-loop
--- cast-x c = record { fits = omega (arith, ends c.before) }
-
 pub bounds-b-k : goal.bounds-b-k
 bounds-b-k c = (place (goal.at.bounds-b-k c).After-lowest-k).0
-
--- left: no goal of today has this name
--- cast-y : tie.Need-overflow-cast-y invariant-loop decreases-loop
--- cast-y c = record { fits = omega (arith, ends c.before.before) }
 
 pub with-requires : goal.with-requires
 with-requires c = omega (arith, ends (goal.at.with-requires c).After-lowest-k)
