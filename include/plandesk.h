@@ -57,7 +57,8 @@
    A call asks that each pointer stands for as many bytes, that of a row for as many numbers, as the length behind it says
    (any pointer will do where that is 0), and that a buffer that is written to shares no byte with another buffer, a plan,
    a table or saved work. It allocates nothing and keeps nothing, so it is safe from several threads at once; each needs a
-   stack of 512 KiB for it.
+   stack of 512 KiB for it. The library is compiled for processors that have x86-64-v2 (SSE4.2 and POPCNT), and does not
+   look whether the one at hand has it.
 
    How long a call takes goes by its steps. The times here were taken with the library as an older compiler made it, and
    not anew. At the limit of 1,000,000 the mesh of 32 nodes and 64 links (plans/mesh.plan) took figure about 0.4 seconds
