@@ -74,11 +74,15 @@ fn declared_by_proof(line: &str) -> Option<&str> {
     (alone && name.chars().all(in_a_name)).then_some(name)
 }
 
-/// What stands before the name that a line of code declares; `ensures` has one where a crate above rests on it by name.
-const ITEMS: [&str; 9] = [
+/// What stands before the name that a line of code declares; `ensures` has one where a crate above rests on it by name, `ghost` where
+/// it is a member of a trait or a field.
+const ITEMS: [&str; 12] = [
+    "const fn ",
     "fn ",
     "struct ",
     "enum ",
+    "trait ",
+    "ghost ",
     "const ",
     "type ",
     "mod ",
@@ -87,11 +91,14 @@ const ITEMS: [&str; 9] = [
     "uint64_t ",
 ];
 
-/// The name that a line of code declares: an item, or a field or a variant of one.
+/// The name that a line of code declares: an item, or a member, a field or a variant of one.
 fn declared_by_code(line: &str) -> Option<&str> {
     let mut rest = line.trim_start();
     for word in ["pub ", "static ", "extern \"C\" "] {
         rest = rest.strip_prefix(word).unwrap_or(rest);
+    }
+    if rest.starts_with("ghost use ") {
+        return None;
     }
     for word in ITEMS {
         if let Some(named) = rest.strip_prefix(word) {

@@ -2,7 +2,7 @@
 //! name is declared where they say so.
 
 use outside::citations::{is_a_file, parts, Names, Part, Place};
-use outside::names::{edits, files, in_a_name, section_of_edits};
+use outside::names::{declared_in_crate, edits, files, in_a_name, section_of_edits};
 use outside::repository::{bytes, path};
 use std::process::Command;
 
@@ -12,8 +12,10 @@ const DOCUMENTS: [&str; 2] = ["README.md", "docs/READING.md"];
 /// The table of demands, whose form is strict.
 const DEMANDS: &str = "docs/DEMANDS.md";
 
-/// Words in backticks that are neither files nor declared: of the kit.
-const WORDS: [&str; 3] = ["rt", "io", "std"];
+/// Words in backticks that are neither files nor declared: of the kit and its library.
+const WORDS: [&str; 8] = [
+    "rt", "io", "std", "itoa", "Option", "Result", "map_err", "find",
+];
 
 struct Example {
     line: usize,
@@ -148,6 +150,16 @@ fn cells(line: &str) -> Vec<String> {
     let line = line.replace("\\|", "\u{a6}");
     let inner = line.trim_matches('|').split('|');
     inner.map(|cell| cell.trim().to_owned()).collect()
+}
+
+#[test]
+fn traits_and_their_members_are_declared() {
+    let words = declared_in_crate("words");
+    for name in ["Word", "size", "read_back", "read", "put"] {
+        assert!(words.contains(name), "{name}");
+    }
+    // What a `ghost use` names is declared elsewhere.
+    assert!(!words.contains("use") && !words.contains("Rattle"));
 }
 
 #[test]

@@ -5,7 +5,7 @@ use mathlib.Core.List.{List}
 use mathlib.Core.Bool.{Bool, true, false, cond}
 use native.Mathlib.Omega.{arith}
 use lib.ListN.{drop}
-use Rattle.words.proofs.Laws.{whole32}
+use Rattle.words.specs.ReadBack.{whole32}
 use Rattle.reliability.specs.declared.Figure.{Figure}
 use Rattle.answers.specs.Answers.{with_figure, low_in, high_in, steps_in, finished_in, Holds}
 

@@ -143,3 +143,5 @@ pub full-fits : (r n : ℕ) → r < 2 ^ 64 → n ≤ 32 → members r ≡ below 
 full-fits r n hr h e =
     let same : r ≡ 2 ^ n - 1 = digits-injective 64 r (2 ^ n - 1) hr (omega (arith, pow_mono h, pow_pos n)) (e ∙ sym (digits-full 64 n (omega arith))) in
     omega (arith, pow_mono h, pow_pos n)
+
+pub ruleset on_digits = (digits-and, digits-or, digits-difference, digits-first, digits-count, digits-cleared)

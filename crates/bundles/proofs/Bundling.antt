@@ -23,7 +23,7 @@ use Rattle.reliability.proofs.Validity.{proper-at, joined-valid}
 use Rattle.polynomials.specs.Rows.{Fits}
 use Rattle.sets.specs.Bundles.{in_bundle, worth, most}
 use Rattle.sets.proofs.Worths.{worth-parallel, most-joined, bundle-small}
-use Rattle.search.specs.declared.Pair.TheVariants.{Both, Neither}
+use Rattle.std.specs.Prelude.{None, Some}
 use Rattle.search.specs.Searches.{places_in, beside, pair_in}
 use Rattle.parts.specs.Tallies.{Written}
 use Rattle.network.specs.declared.Network.{Network}
@@ -81,7 +81,7 @@ module _ (s n : Network) (now : Bundling s n) where
   g = network_of n
 
   -- no pair is left
-  pub all-bundled : pair_in (beside n.a n.b) (places_in n.alive) ≡ Neither → Bundled s n
+  pub all-bundled : pair_in (beside n.a n.b) (places_in n.alive) ≡ None → Bundled s n
   all-bundled e = record {
     holds = now.holds;
     nodes = now.nodes;
@@ -94,7 +94,7 @@ module _ (s n : Network) (now : Bundling s n) where
   }
 
   -- links i and j are the next pair
-  module _ (i j : ℕ) (found : pair_in (beside n.a n.b) (places_in n.alive) ≡ Both i j) where
+  module _ (i j : ℕ) (found : pair_in (beside n.a n.b) (places_in n.alive) ≡ Some (i, j)) where
     used : Used n i × Used n j
     used = both_used n now.sized now.loopless i j found
 

@@ -1,4 +1,4 @@
-// Networks by value whose links stand for several side by side: a link's low value says for how many.
+//! Networks by value whose links stand for several side by side: a link's low value says for how many.
 #![tactic(auto)]
 
 ghost use Rattle.std.specs.Prelude.{◌≡◌};
@@ -9,9 +9,8 @@ ghost use Rattle.network.specs.Places.{network_of, Invariant};
 ghost use Rattle.bundles.specs.Bundled.{Bundled};
 
 use network::Network;
-use search::Pair;
 
-// The same network, each link for itself alone.
+/// The same network, each link for itself alone.
 pub fn single(mut net: Network) -> Network
     requires { Invariant net }
     ensures { (network_of result ≡ singles (network_of net)) × (result.nodes ≡ net.nodes) × (result.chosen ≡ net.chosen) × Invariant result }
@@ -21,21 +20,17 @@ pub fn single(mut net: Network) -> Network
     net
 }
 
-// Links with the same two ends as one, as long as there are such.
+/// Links with the same two ends as one, as long as there are such.
 pub fn bundled(mut net: Network) -> Network
     requires { Invariant net × Loopless (network_of net) × Fits (λ x. most x (network_of net)) }
     ensures { Bundled net result }
 {
-    while let Pair::Both(i, j) = search::first_pair(net.alive, &net.at, &net.a, &net.b) {
+    while let Some((i, j)) = search::first_pair(net.alive, &net.at, &net.a, &net.b) {
         let both = net.low[i] + net.low[j];
         net.low[i] = both;
         net.high[i] = both;
-        let x = net.a[j];
-        let y = net.b[j];
-        parts::take_out(&mut net.at, x, j);
-        parts::take_out(&mut net.at, y, j);
-        let others = bits::without(net.alive, j);
-        net.alive = others;
+        let (x, y) = (net.a[j], net.b[j]);
+        net.alive = parts::unlink(&mut net.at, net.alive, x, y, j);
     }
     net
 }

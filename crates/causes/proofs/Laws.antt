@@ -1,14 +1,13 @@
 -- The numbers returned.
-use Prim.Native.Nat.{ℕ, ◌≤◌}
+use Prim.Native.Nat.{◌≤◌}
 use mathlib.Core.Path.{◌≡◌, refl}
 use mathlib.Core.Bool.{Bool, true, false, cond}
 use native.Mathlib.Omega.{arith}
-use Rattle.plan.proofs.Verdicts.{number-range}
+use Rattle.plan.proofs.Verdicts.{number-range, not-refused}
 use Rattle.causes.specs.declared.CallCause.{CallCause}
 use Rattle.causes.specs.declared.CallCause.TheVariants.{Limit, Buffer, TableSize, TableValues, Place, Choice, SavedWork, OpenSplit, ManyLinks, RowSize, Plan, SecondPlan}
-use Rattle.causes.specs.declared.CallVerdict.{CallVerdict}
-use Rattle.causes.specs.declared.CallVerdict.TheVariants.{Accepted, Refused}
-use Rattle.causes.specs.Causes.{call_number, call_returned}
+use Rattle.std.specs.Prelude.{Ok, Err}
+use Rattle.causes.specs.Causes.{CallVerdict, call_number, call_returned}
 
 pub call-number-range : (c : CallCause) → (1 ≤ call_number c) × (call_number c ≤ 26)
 call-number-range Limit = omega arith
@@ -25,12 +24,12 @@ call-number-range (Plan c) = omega (arith, number-range c)
 call-number-range (SecondPlan c) = omega (arith, number-range c)
 
 -- 0 is returned of nothing but an accepted call
-pub zero-accepted : (v : CallVerdict) → call_returned v ≡ 0 → v ≡ Accepted
-zero-accepted Accepted e = refl
-zero-accepted (Refused c) e = absurd (omega (arith, call-number-range c))
+pub zero-accepted : (v : CallVerdict) → call_returned v ≡ 0 → v ≡ Ok tt
+zero-accepted (Ok tt) e = refl
+zero-accepted (Err c) e = absurd (omega (arith, call-number-range c))
 
 -- of two tests, one behind the other, both are passed where neither refuses
-pub both-passed : (s t : Bool) (c d : CallCause) → cond s (cond t Accepted (Refused d)) (Refused c) ≡ Accepted → (s ≡ true) × (t ≡ true)
+pub both-passed : (s t : Bool) (c d : CallCause) → ◌≡◌ {A = CallVerdict} (cond s (cond t (Ok tt) (Err d)) (Err c)) (Ok tt) → (s ≡ true) × (t ≡ true)
 both-passed true true c d e = (refl, refl)
-both-passed true false c d e = let z : ◌≡◌ {A = ℕ} 0 1 = cc in absurd (omega arith)
-both-passed false t c d e = let z : ◌≡◌ {A = ℕ} 0 1 = cc in absurd (omega arith)
+both-passed true false c d e = not-refused e
+both-passed false t c d e = not-refused e

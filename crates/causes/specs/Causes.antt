@@ -1,10 +1,19 @@
 -- The causes for which a call is refused: the paper's numbers.
-use Rattle.std.specs.Prelude.{ℕ, ◌+◌, ◌*◌}
+use Rattle.std.specs.Prelude.{ℕ, ◌+◌, ◌*◌, Result, Ok, Err}
+use Rattle.tables.specs.declared.Cause.{Cause as TableCause}
+use Rattle.tables.specs.declared.Cause.TheVariants.{Size, Values}
 use Rattle.plan.specs.Plans.{number, named_link}
 use Rattle.causes.specs.declared.CallCause.{CallCause}
 use Rattle.causes.specs.declared.CallCause.TheVariants.{Limit, Buffer, TableSize, TableValues, Place, Choice, SavedWork, OpenSplit, ManyLinks, RowSize, Plan, SecondPlan}
-use Rattle.causes.specs.declared.CallVerdict.{CallVerdict}
-use Rattle.causes.specs.declared.CallVerdict.TheVariants.{Accepted, Refused}
+
+-- accepted, or refused for a cause
+abbrev pub CallVerdict : Type 0
+CallVerdict = Result (Unit {0}) CallCause
+
+-- a table's causes among those of a call
+abbrev pub of_table : TableCause → CallCause
+of_table Size = TableSize
+of_table Values = TableValues
 
 -- the column Number: plan A's is that of its cause, plan B's 20 more
 abbrev pub call_number : CallCause → ℕ
@@ -38,5 +47,5 @@ call_link (SecondPlan c) = named_link c
 
 -- the column Returned
 abbrev pub call_returned : CallVerdict → ℕ
-call_returned Accepted = 0
-call_returned (Refused c) = call_number c + 256 * call_link c
+call_returned (Ok tt) = 0
+call_returned (Err c) = call_number c + 256 * call_link c

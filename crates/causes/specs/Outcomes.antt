@@ -1,8 +1,6 @@
 -- A call that fills one buffer: accepted or refused.
-use Rattle.std.specs.Prelude.{ℕ, ◌≤◌, ◌≡◌, List}
-use Rattle.causes.specs.declared.CallVerdict.{CallVerdict}
-use Rattle.causes.specs.declared.CallVerdict.TheVariants.{Accepted, Refused}
-use Rattle.causes.specs.Causes.{call_returned}
+use Rattle.std.specs.Prelude.{ℕ, ◌≤◌, ◌≡◌, List, Ok, Err}
+use Rattle.causes.specs.Causes.{CallVerdict, call_returned}
 
 -- what a call returns, and the buffer at its end
 pub record Outcome : Type 0 where
@@ -11,8 +9,8 @@ pub record Outcome : Type 0 where
 
 -- accepted and answered, or refused with the buffer b as it was
 abbrev pub unless : CallVerdict → List ℕ → List ℕ → Outcome
-unless Accepted b answer = record { returned = 0; buffer = answer }
-unless (Refused c) b answer = record { returned = call_returned (Refused c); buffer = b }
+unless (Ok tt) b answer = record { returned = 0; buffer = answer }
+unless (Err c) b answer = record { returned = call_returned (Err c); buffer = b }
 
 -- a numbered refusal, the buffer untouched
 pub record Refusal (o : Outcome) (b : List ℕ) : Type 0 where

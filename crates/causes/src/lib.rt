@@ -1,4 +1,4 @@
-// Why a call of the planning desk is refused, and what it then returns.
+//! Why a call of the planning desk is refused, and what it then returns.
 #![tactic(auto)]
 
 ghost use Rattle.std.specs.Prelude.{◌≡◌};
@@ -6,8 +6,8 @@ ghost use Rattle.causes.specs.Causes.{call_number, call_link, call_returned};
 
 use plan::Cause;
 
-// Why a call is refused: its own causes, or that of plan A or of plan B.
-#[derive(Clone, Copy)]
+/// Why a call is refused: its own causes, or that of plan A or of plan B.
+#[derive(Clone, Copy, Debug, PartialEq, Eq)]
 pub enum CallCause {
     Limit,
     Buffer,
@@ -23,58 +23,68 @@ pub enum CallCause {
     SecondPlan(Cause),
 }
 
-#[derive(Clone, Copy)]
-pub enum CallVerdict {
-    Accepted,
-    Refused(CallCause),
-}
+/// A plan's cause is that of plan A where no other is named.
+impl From<Cause> for CallCause {
+    ghost use Rattle.causes.specs.declared.CallCause.TheVariants.{Plan};
 
-// The column Number.
-fn call_number(c: CallCause) -> u8
-    ensures { result ≡ call_number c }
-{
-    match c {
-        CallCause::Limit => 7,
-        CallCause::Buffer => 9,
-        CallCause::TableSize => 12,
-        CallCause::TableValues => 13,
-        CallCause::Place => 8,
-        CallCause::Choice => 14,
-        CallCause::SavedWork => 10,
-        CallCause::OpenSplit => 11,
-        CallCause::ManyLinks => 15,
-        CallCause::RowSize => 16,
-        CallCause::Plan(p) => plan::number_of(p),
-        CallCause::SecondPlan(p) => plan::number_of(p) + 20,
+    ghost from_gives = { λ cause c. c ≡ Plan cause };
+
+    fn from(cause: Cause) -> CallCause {
+        CallCause::Plan(cause)
     }
 }
 
-// The link that a cause names, or 0.
-fn call_link(c: CallCause) -> u16
-    ensures { result ≡ call_link c }
-{
-    match c {
-        CallCause::Limit => 0,
-        CallCause::Buffer => 0,
-        CallCause::TableSize => 0,
-        CallCause::TableValues => 0,
-        CallCause::Place => 0,
-        CallCause::Choice => 0,
-        CallCause::SavedWork => 0,
-        CallCause::OpenSplit => 0,
-        CallCause::ManyLinks => 0,
-        CallCause::RowSize => 0,
-        CallCause::Plan(p) => plan::named_link(p),
-        CallCause::SecondPlan(p) => plan::named_link(p),
+impl From<tables::Cause> for CallCause {
+    ghost use Rattle.causes.specs.Causes.{of_table};
+
+    ghost from_gives = { λ cause c. c ≡ of_table cause };
+
+    fn from(cause: tables::Cause) -> CallCause {
+        match cause {
+            tables::Cause::Size => CallCause::TableSize,
+            tables::Cause::Values => CallCause::TableValues,
+        }
     }
 }
 
-// The column Returned.
-pub fn call_returned(v: CallVerdict) -> u64
+impl CallCause {
+    /// The column Number.
+    fn number(self) -> u8
+        ensures { result ≡ call_number self }
+    {
+        match self {
+            CallCause::Limit => 7,
+            CallCause::Buffer => 9,
+            CallCause::TableSize => 12,
+            CallCause::TableValues => 13,
+            CallCause::Place => 8,
+            CallCause::Choice => 14,
+            CallCause::SavedWork => 10,
+            CallCause::OpenSplit => 11,
+            CallCause::ManyLinks => 15,
+            CallCause::RowSize => 16,
+            CallCause::Plan(p) => p.number(),
+            CallCause::SecondPlan(p) => p.number() + 20,
+        }
+    }
+
+    /// The link that it names, or 0.
+    fn named_link(self) -> u16
+        ensures { result ≡ call_link self }
+    {
+        match self {
+            CallCause::Plan(p) | CallCause::SecondPlan(p) => p.named_link(),
+            _ => 0,
+        }
+    }
+}
+
+/// The column Returned.
+pub fn call_returned(v: Result<(), CallCause>) -> u64
     ensures { result ≡ call_returned v }
 {
     match v {
-        CallVerdict::Accepted => 0,
-        CallVerdict::Refused(c) => (call_number(c) as u64) + 256 * (call_link(c) as u64),
+        Ok(()) => 0,
+        Err(c) => u64::from(c.number()) + 256 * u64::from(c.named_link()),
     }
 }

@@ -1,4 +1,4 @@
-// What is made of two figures, of all nodes: the importance of a link, and the difference of two networks.
+//! What is made of two figures, of all nodes: the importance of a link, and the difference of two networks.
 #![tactic(auto)]
 
 ghost use Rattle.std.specs.Prelude.{◌≡◌, ◌^◌, ◌<◌};
@@ -8,7 +8,7 @@ ghost use Rattle.network.specs.Places.{network_of, index_of, Used, Invariant};
 use network::Network;
 use reliability::{Difference, Figure};
 
-// The importance of the link at place i. A loop's sound and broken networks are both the network without it.
+/// The importance of the link at place i. A loop's sound and broken networks are both the network without it.
 pub fn importance(net: Network, i: usize, limit: u64) -> Figure
     requires { Invariant net × Used net i × (limit < 2 ^ 31) × (net.chosen ≡ net.nodes) }
     ensures { result ≡ importance (network_of net) (index_of net i) limit }
@@ -18,16 +18,11 @@ pub fn importance(net: Network, i: usize, limit: u64) -> Figure
     if e.a == e.b {
         return figures::lessened(broken, broken);
     }
-    let sound = factoring::work(
-        assembly::contracted(
-            net.alive, net.nodes, net.chosen, &net.at, &net.a, &net.b, &net.low, &net.high, i,
-        ),
-        limit,
-    );
+    let sound = factoring::work(net.contracted(i), limit);
     figures::lessened(sound, broken)
 }
 
-// The difference of two networks: the first minus the second.
+/// The difference of two networks: the first minus the second.
 pub fn difference(first: Network, second: Network, limit: u64) -> Difference
     requires { Invariant first × Invariant second × (limit < 2 ^ 31) × (first.chosen ≡ first.nodes) × (second.chosen ≡ second.nodes) }
     ensures { result ≡ difference (network_of first) (network_of second) limit }

@@ -4,7 +4,7 @@ use mathlib.Core.Path.{◌≡◌, refl}
 use mathlib.Core.List.{List, [], ◌∷◌, ◌++◌, map}
 use lib.ListN.{replicate}
 use Rattle.plan.specs.Plans.{rated, link_verdict, links_verdict, verdict}
-use Rattle.causes.specs.declared.CallVerdict.{CallVerdict}
+use Rattle.causes.specs.Causes.{CallVerdict}
 use Rattle.causes.specs.Causes.{call_returned}
 use Rattle.reliability.specs.Networks.{connected, label, merge, every}
 use Rattle.search.specs.Searches.{from}

@@ -13,8 +13,8 @@ use Rattle.plan.specs.Plans.{WellFormed, size_n, size_m, plan_of}
 use Rattle.plan.proofs.Links.{same_ends}
 use Rattle.plan.proofs.Accepted.{plan-links}
 use Rattle.causes.specs.declared.CallCause.{CallCause}
-use Rattle.causes.specs.declared.CallVerdict.{CallVerdict}
-use Rattle.causes.specs.declared.CallVerdict.TheVariants.{Accepted, Refused}
+use Rattle.causes.specs.Causes.{CallVerdict}
+use Rattle.std.specs.Prelude.{Ok, Err}
 use Rattle.causes.specs.Causes.{call_returned}
 use Rattle.causes.specs.Outcomes.{Outcome, unless, Refusal}
 use Rattle.causes.proofs.Laws.{call-number-range}
@@ -57,7 +57,7 @@ module _ (plan row : List ℕ) where
   counts-returned = returned-of v _ _
 
   -- 0 exactly when the verdict is accepted
-  pub counts_zero : o.returned ≡ 0 ↔ v ≡ Accepted
+  pub counts_zero : o.returned ≡ 0 ↔ v ≡ Ok tt
   counts_zero = zero_of v counts-returned
 
   -- an accepted plan, at most 24 links and a row of m + 1 numbers at least, and no other call
@@ -69,17 +69,17 @@ module _ (plan row : List ℕ) where
   unfolding counts_outcome
   counted-or-refused = go v (λ e. ((counts-means plan (length row)).0 e).2)
     where
-      go : (u : CallVerdict) → (u ≡ Accepted → size_m plan + 1 ≤ length row) → Counted plan row (unless u row (filled plan row)) ⊎ Refusal (unless u row (filled plan row)) row
-      go Accepted room = inl (record {
+      go : (u : CallVerdict) → (u ≡ Ok tt → size_m plan + 1 ≤ length row) → Counted plan row (unless u row (filled plan row)) ⊎ Refusal (unless u row (filled plan row)) row
+      go (Ok tt) room = inl (record {
         zero = refl;
         entries = λ i h. get_or-append counted _ 0 i (omega (arith, counted-length)) ∙ entry i h;
         behind = λ i h. ap (λ k. get_or (counted ++ drop k row) i 0) (sym counted-length) ∙ kept counted row i (omega (arith, counted-length));
         size = omega (arith, room refl, counted-length, length-append counted (drop (suc (size_m plan)) row), length-drop (suc (size_m plan)) row);
       })
-      go (Refused c) room = inr (record { numbered = omega (arith, call-number-range c); untouched = refl })
+      go (Err c) room = inr (record { numbered = omega (arith, call-number-range c); untouched = refl })
 
   -- a refused call leaves the row as it was
-  pub counts-refused : (c : CallCause) → v ≡ Refused c → (o.returned ≡ call_returned (Refused c)) × (o.buffer ≡ row)
+  pub counts-refused : (c : CallCause) → v ≡ Err c → (o.returned ≡ call_returned (Err c)) × (o.buffer ≡ row)
   unfolding counts_outcome
   counts-refused c e = rw e (refl, refl)
 

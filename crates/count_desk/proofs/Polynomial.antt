@@ -17,7 +17,7 @@ use Rattle.sets.proofs.Polynomial.{alike, alike-sum}
 use Rattle.sets.proofs.Few.{few-none, last_one}
 use Rattle.plan.specs.declared.Rated.{Rated}
 use Rattle.plan.specs.declared.Rated.TheVariants.{Units}
-use Rattle.plan.specs.declared.Verdict.TheVariants.{Accepted}
+use Rattle.std.specs.Prelude.{Ok}
 use Rattle.plan.specs.Plans.{size_n, size_m, file_value, rated, verdict, link_in, plan_of}
 use Rattle.plan.specs.Weights.{sound_parts, all_parts, weight_in, exact_among, exact_of}
 use Rattle.plan.proofs.Accepted.{plan-valid, plan-links, plan-nodes}
@@ -46,7 +46,7 @@ module _ (rating : ℕ → ℕ) (b : List ℕ) where
   polynomial-exact p h = alike-exact p (S - p) (λ i l. (ap (sound_parts rating) (h i l), ap (λ (r : Rated). all_parts r - sound_parts rating r) (h i l)))
 
 -- n nodes need n − 1 links
-pub entries-before : (plan : List ℕ) → verdict plan ≡ Accepted → (i : ℕ) → i + 1 < size_n plan → connecting_sets (plan_of T plan) i ≡ 0
+pub entries-before : (plan : List ℕ) → verdict plan ≡ Ok tt → (i : ℕ) → i + 1 < size_n plan → connecting_sets (plan_of T plan) i ≡ 0
 entries-before plan ok i h = few-none (plan_of T plan) (plan-valid T plan built-in-range ok) i (omega (arith, plan-nodes T plan))
 
 -- entry m is 1 exactly if the plan is connected

@@ -6,11 +6,10 @@ use mathlib.Core.Logic.{◌↔◌}
 use lib.Dec.{ltb}
 use borrow.Author.Tests.{lt-ltb, le-ltb, ltb-false}
 use Rattle.plan.specs.declared.Cause.{Cause}
-use Rattle.plan.specs.declared.Verdict.TheVariants.{Accepted as PlanAccepted, Refused as PlanRefused}
+use Rattle.std.specs.Prelude.{Ok, Err}
 use Rattle.plan.specs.Plans.{WellFormed, size_m, verdict}
 use Rattle.plan.proofs.Verdicts.{accepted-means}
 use Rattle.causes.specs.declared.CallCause.TheVariants.{ManyLinks, RowSize, Plan}
-use Rattle.causes.specs.declared.CallVerdict.TheVariants.{Accepted, Refused}
 use Rattle.refusals.specs.Refusals.{also, planned}
 use Rattle.refusals.proofs.Calls.{unmet, planned-means, also-means}
 use Rattle.count_desk.specs.Counts.{few, row_room, counts_verdict}
@@ -18,42 +17,42 @@ use Rattle.count_desk.specs.Counts.{few, row_room, counts_verdict}
 -- ---- the two causes
 
 module _ (plan : List ℕ) where
-  pub few-means : few plan ≡ Accepted ↔ size_m plan ≤ 24
+  pub few-means : few plan ≡ Ok tt ↔ size_m plan ≤ 24
   unfolding few
-  few-means = (λ e. ltb-false 24 (size_m plan) (unmet (ltb 24 (size_m plan)) ManyLinks Accepted e).0, λ h. simp (le-ltb 24 (size_m plan) h))
+  few-means = (λ e. ltb-false 24 (size_m plan) (unmet (ltb 24 (size_m plan)) ManyLinks (Ok tt) e).0, λ h. simp (le-ltb 24 (size_m plan) h))
 
-  pub many : 24 < size_m plan → few plan ≡ Refused ManyLinks
+  pub many : 24 < size_m plan → few plan ≡ Err ManyLinks
   unfolding few
   many h = simp (lt-ltb 24 (size_m plan) h)
 
 module _ (plan : List ℕ) (room : ℕ) where
-  pub row-room-means : row_room plan room ≡ Accepted ↔ size_m plan + 1 ≤ room
+  pub row-room-means : row_room plan room ≡ Ok tt ↔ size_m plan + 1 ≤ room
   unfolding row_room
   row-room-means = (
-    λ e. ltb-false room (size_m plan + 1) (unmet (ltb room (size_m plan + 1)) RowSize Accepted e).0,
+    λ e. ltb-false room (size_m plan + 1) (unmet (ltb room (size_m plan + 1)) RowSize (Ok tt) e).0,
     λ h. simp (le-ltb room (size_m plan + 1) h),
   )
 
-  pub short : room < size_m plan + 1 → row_room plan room ≡ Refused RowSize
+  pub short : room < size_m plan + 1 → row_room plan room ≡ Err RowSize
   unfolding row_room
   short h = simp (lt-ltb room (size_m plan + 1) h)
 
   -- ---- in order
 
   -- a refused plan is refused for its own cause, whatever its links and the row
-  pub plan-refused : (c : Cause) → verdict plan ≡ PlanRefused c → counts_verdict plan room ≡ Refused (Plan c)
+  pub plan-refused : (c : Cause) → verdict plan ≡ Err c → counts_verdict plan room ≡ Err (Plan c)
   plan-refused c e = rw e refl
 
   -- then for its links, whatever the row
-  pub many-refused : verdict plan ≡ PlanAccepted → 24 < size_m plan → counts_verdict plan room ≡ Refused ManyLinks
+  pub many-refused : verdict plan ≡ Ok tt → 24 < size_m plan → counts_verdict plan room ≡ Err ManyLinks
   many-refused e h = let q = many plan h in rw (e, q) refl
 
   -- then for the row
-  pub short-refused : verdict plan ≡ PlanAccepted → size_m plan ≤ 24 → room < size_m plan + 1 → counts_verdict plan room ≡ Refused RowSize
+  pub short-refused : verdict plan ≡ Ok tt → size_m plan ≤ 24 → room < size_m plan + 1 → counts_verdict plan room ≡ Err RowSize
   short-refused e h k = let f = (few-means plan).1 h in let q = short k in rw (e, f, q) refl
 
   -- as the call's callees ask it
-  pub counts-asks : counts_verdict plan room ≡ Accepted ↔ (verdict plan ≡ PlanAccepted) × (size_m plan ≤ 24) × (size_m plan + 1 ≤ room)
+  pub counts-asks : counts_verdict plan room ≡ Ok tt ↔ (verdict plan ≡ Ok tt) × (size_m plan ≤ 24) × (size_m plan + 1 ≤ room)
   counts-asks =
       let p = planned-means (verdict plan) in
       let f = few-means plan in
@@ -65,7 +64,7 @@ module _ (plan : List ℕ) (room : ℕ) where
       )
 
   -- the plan, at most 24 links, a row of m + 1 numbers at least
-  pub counts-means : counts_verdict plan room ≡ Accepted ↔ WellFormed plan × (size_m plan ≤ 24) × (size_m plan + 1 ≤ room)
+  pub counts-means : counts_verdict plan room ≡ Ok tt ↔ WellFormed plan × (size_m plan ≤ 24) × (size_m plan + 1 ≤ room)
   counts-means =
       let w = accepted-means plan in
       let e = counts-asks in

@@ -3,19 +3,19 @@ use Rattle.std.specs.Prelude.{ℕ, suc, ◌+◌, ◌≤◌, ◌<◌, ◌≡◌, 
 use Rattle.ratings.specs.Ratings.{T}
 use Rattle.plan.specs.Plans.{size_m, verdict, plan_of}
 use Rattle.causes.specs.declared.CallCause.TheVariants.{ManyLinks, RowSize}
-use Rattle.causes.specs.declared.CallVerdict.{CallVerdict}
-use Rattle.causes.specs.declared.CallVerdict.TheVariants.{Accepted, Refused}
+use Rattle.causes.specs.Causes.{CallVerdict}
+use Rattle.std.specs.Prelude.{Ok, Err}
 use Rattle.causes.specs.Outcomes.{Outcome, unless}
 use Rattle.refusals.specs.Refusals.{also, planned}
 use Rattle.sets.specs.Sets.{connecting_sets, connecting_row}
 
 -- more than 24 links
 unfoldable pub few : List ℕ → CallVerdict
-few plan = cond (ltb 24 (size_m plan)) (Refused ManyLinks) Accepted
+few plan = cond (ltb 24 (size_m plan)) (Err ManyLinks) (Ok tt)
 
 -- a row shorter than m + 1 numbers
 unfoldable pub row_room : List ℕ → ℕ → CallVerdict
-row_room plan room = cond (ltb room (size_m plan + 1)) (Refused RowSize) Accepted
+row_room plan room = cond (ltb room (size_m plan + 1)) (Err RowSize) (Ok tt)
 
 -- the plan's causes, then these
 abbrev pub counts_verdict : List ℕ → ℕ → CallVerdict

@@ -13,8 +13,8 @@ use Rattle.search.specs.Searches.{pick, from, nodes_in}
 use Rattle.network.proofs.Picks.{pick_first, take-from}
 use Rattle.tables.specs.Tables.{rating}
 use Rattle.plan.specs.Plans.{size_n, WellFormed, plan_of}
-use Rattle.causes.specs.declared.CallVerdict.{CallVerdict}
-use Rattle.causes.specs.declared.CallVerdict.TheVariants.{Accepted, Refused}
+use Rattle.causes.specs.Causes.{CallVerdict}
+use Rattle.std.specs.Prelude.{Ok, Err}
 use Rattle.causes.specs.Outcomes.{unless}
 use Rattle.refusals.specs.Refusals.{figure_verdict}
 use Rattle.refusals.proofs.Calls.{figure-means, chosen-all}
@@ -31,9 +31,9 @@ all_named plan well =
     ap (λ bs. pick bs (from 0 64)) (digits-full 64 (size_n plan) (omega arith)) ∙ pick_first (size_n plan) (64 - size_n plan) (from 0 64) ∙ take-from 0 (size_n plan) 64 (omega arith)
 
 -- an answer shows only where a call is accepted
-unless-same : (v : CallVerdict) (b : List ℕ) {x y : List ℕ} → (v ≡ Accepted → x ≡ y) → unless v b x ≡ unless v b y
-unless-same Accepted b h = ap (unless Accepted b) (h refl)
-unless-same (Refused c) b h = refl
+unless-same : (v : CallVerdict) (b : List ℕ) {x y : List ℕ} → (v ≡ Ok tt → x ≡ y) → unless v b x ≡ unless v b y
+unless-same (Ok tt) b h = ap (unless (Ok tt) b) (h refl)
+unless-same (Err c) b h = refl
 
 module _ (plan table : List ℕ) where
   abbrev g : Network

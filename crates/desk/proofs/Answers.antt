@@ -21,8 +21,8 @@ use Rattle.plan.proofs.Verdicts.{accepted-means}
 use Rattle.plan.specs.Weights.{weights_of, exact_among}
 use Rattle.plan.proofs.Accepted.{plan-valid, plan-links, plan-nodes}
 use Rattle.plan.proofs.Weights.{unitsIn, plan-units, plan-total}
-use Rattle.causes.specs.declared.CallVerdict.{CallVerdict}
-use Rattle.causes.specs.declared.CallVerdict.TheVariants.{Accepted, Refused}
+use Rattle.causes.specs.Causes.{CallVerdict}
+use Rattle.std.specs.Prelude.{Ok, Err}
 use Rattle.causes.specs.Outcomes.{Outcome, unless, Refusal}
 use Rattle.causes.proofs.Laws.{call-number-range}
 use Rattle.answers.specs.Answers.{with_figure, Holds}
@@ -32,10 +32,10 @@ use Rattle.desk.specs.Answers.{signed, EnclosesAmong, Narrow, Marked, Full}
 
 -- ---- accepted or refused
 
-pub full-or-refused : (f : Figure) (b : List ℕ) (v : CallVerdict) → (v ≡ Accepted → 16 ≤ length b)
+pub full-or-refused : (f : Figure) (b : List ℕ) (v : CallVerdict) → (v ≡ Ok tt → 16 ≤ length b)
     → Full (unless v b (with_figure f b)) b (with_figure f b) ⊎ Refusal (unless v b (with_figure f b)) b
-full-or-refused f b Accepted room = inl (record { zero = refl; written = refl; later = refl; size = omega (arith, room refl, length-drop 16 b) })
-full-or-refused f b (Refused c) room = inr (record { numbered = omega (arith, call-number-range c); untouched = refl })
+full-or-refused f b (Ok tt) room = inl (record { zero = refl; written = refl; later = refl; size = omega (arith, room refl, length-drop 16 b) })
+full-or-refused f b (Err c) room = inr (record { numbered = omega (arith, call-number-range c); untouched = refl })
 
 pub valid-of : (plan table : List ℕ) → AcceptedTable table → WellFormed plan → Valid (plan_of (rating table) plan)
 valid-of plan table fine w = plan-valid (rating table) plan (rating-range table fine) ((accepted-means plan).1 w)

@@ -22,8 +22,8 @@ use Rattle.tables.proofs.Theorems.{rating-range}
 use Rattle.plan.specs.Plans.{size_n, WellFormed, verdict, plan_of}
 use Rattle.plan.proofs.Verdicts.{accepted-means, zero-means}
 use Rattle.plan.proofs.Weights.{plan-enclosed, plan-lengths}
-use Rattle.causes.specs.declared.CallVerdict.{CallVerdict}
-use Rattle.causes.specs.declared.CallVerdict.TheVariants.{Accepted}
+use Rattle.causes.specs.Causes.{CallVerdict}
+use Rattle.std.specs.Prelude.{Ok}
 use Rattle.causes.specs.Causes.{call_returned}
 use Rattle.causes.specs.Outcomes.{Outcome, Refusal}
 use Rattle.causes.proofs.Outcomes.{returned-of, zero_of}
@@ -71,7 +71,7 @@ module _ (plan table : List ℕ) (choice limit : ℕ) (b : List ℕ) where
   figure-returned = returned-of v b (with_figure f b)
 
   -- demand 1: 0 exactly when the verdict is accepted
-  pub figure-zero : o.returned ≡ 0 ↔ v ≡ Accepted
+  pub figure-zero : o.returned ≡ 0 ↔ v ≡ Ok tt
   figure-zero = zero_of v figure-returned
 
   -- demand 1: a call that meets none of its rows is accepted, and no other

@@ -26,8 +26,8 @@ use Rattle.plan.proofs.Verdicts.{accepted-means}
 use Rattle.plan.specs.Weights.{exact_among, exact_of, lengths}
 use Rattle.plan.proofs.Accepted.{plan-links, plan-nodes}
 use Rattle.plan.proofs.Weights.{plan-enclosed, plan-units, plan-total}
-use Rattle.causes.specs.declared.CallVerdict.{CallVerdict}
-use Rattle.causes.specs.declared.CallVerdict.TheVariants.{Accepted}
+use Rattle.causes.specs.Causes.{CallVerdict}
+use Rattle.std.specs.Prelude.{Ok}
 use Rattle.causes.specs.Causes.{call_returned}
 use Rattle.causes.specs.Outcomes.{Outcome, Refusal}
 use Rattle.causes.proofs.Outcomes.{returned-of, zero_of}
@@ -59,7 +59,7 @@ module _ (first second table : List ℕ) (limit : ℕ) (b : List ℕ) where
   bits = record { low = twos d.low; high = twos d.high; steps = d.steps; finished = d.finished }
 
   -- the causes of a figure, then plan B's
-  means : v ≡ Accepted ↔ (limit ≤ 1000000) × (16 ≤ length b) × AcceptedTable table × WellFormed first × WellFormed second
+  means : v ≡ Ok tt ↔ (limit ≤ 1000000) × (16 ≤ length b) × AcceptedTable table × WellFormed first × WellFormed second
   means =
       let p = figure-means first table limit (length b) in
       let q = Iff.trans (second-means (verdict second)) (accepted-means second) in
@@ -77,7 +77,7 @@ module _ (first second table : List ℕ) (limit : ℕ) (b : List ℕ) where
   difference-returned = returned-of v b (with_difference d b)
 
   -- demand 1: 0 exactly when the verdict is accepted
-  pub difference-zero : o.returned ≡ 0 ↔ v ≡ Accepted
+  pub difference-zero : o.returned ≡ 0 ↔ v ≡ Ok tt
   difference-zero = zero_of v difference-returned
 
   -- demand 1: a call that meets none of its rows is accepted, and no other

@@ -22,8 +22,8 @@ use Rattle.plan.specs.Plans.{WellFormed, plan_of}
 use Rattle.plan.specs.Weights.{weights_of, other_lengths}
 use Rattle.plan.proofs.Accepted.{plan-links, plan-nodes, plan-ends}
 use Rattle.plan.proofs.Weights.{plan-enclosed, others-units, others-total}
-use Rattle.causes.specs.declared.CallVerdict.{CallVerdict}
-use Rattle.causes.specs.declared.CallVerdict.TheVariants.{Accepted}
+use Rattle.causes.specs.Causes.{CallVerdict}
+use Rattle.std.specs.Prelude.{Ok}
 use Rattle.causes.specs.Causes.{call_returned}
 use Rattle.causes.specs.Outcomes.{Outcome, Refusal}
 use Rattle.causes.proofs.Outcomes.{returned-of, zero_of}
@@ -48,7 +48,7 @@ module _ (plan table : List ℕ) (place limit : ℕ) (b : List ℕ) where
   f = importance g place limit
 
   -- the causes of a figure, then the place
-  means : v ≡ Accepted ↔ (limit ≤ 1000000) × (16 ≤ length b) × AcceptedTable table × WellFormed plan × (place < size_m plan)
+  means : v ≡ Ok tt ↔ (limit ≤ 1000000) × (16 ≤ length b) × AcceptedTable table × WellFormed plan × (place < size_m plan)
   means =
       let w = figure-means plan table limit (length b) in
       let p = placed-means plan place in
@@ -66,7 +66,7 @@ module _ (plan table : List ℕ) (place limit : ℕ) (b : List ℕ) where
   importance-returned = returned-of v b (with_figure f b)
 
   -- demand 1: 0 exactly when the verdict is accepted
-  pub importance-zero : o.returned ≡ 0 ↔ v ≡ Accepted
+  pub importance-zero : o.returned ≡ 0 ↔ v ≡ Ok tt
   importance-zero = zero_of v importance-returned
 
   -- demand 1: a call that meets none of its rows is accepted, and no other

@@ -5,7 +5,7 @@ use Rattle.ratings.specs.Ratings.{T}
 use Rattle.reliability.specs.Rule.{figure, tree}
 use Rattle.reliability.specs.Comparisons.{importance, difference}
 use Rattle.plan.specs.Plans.{verdict, plan_of}
-use Rattle.causes.specs.declared.CallVerdict.{CallVerdict}
+use Rattle.causes.specs.Causes.{CallVerdict}
 use Rattle.causes.specs.Outcomes.{Outcome, unless}
 use Rattle.refusals.specs.Refusals.{asked, work_room, planned, planned_second, placed, also}
 use Rattle.answers.specs.Answers.{with_figure}

@@ -1,23 +1,77 @@
-// The planning desk's seven calls, for programs in C.
+//! The planning desk's seven calls, for programs in C.
 #![tactic(auto)]
 
 ghost use Rattle.std.specs.Prelude.{◌≡◌, length};
+ghost use Rattle.causes.specs.Causes.{call_returned};
 ghost use Rattle.sitting_desk.specs.Outcome.{sitting_outcome};
 ghost use Rattle.count_desk.specs.Counts.{counts_outcome};
 ghost use Rattle.game_desk.specs.Games.{game_returned, GameLeaves};
 ghost use Rattle.desk.specs.Outcomes.{twos, check_outcome, figure_outcome, importance_outcome, difference_outcome};
 
-use causes::CallVerdict;
+use causes::CallCause;
 
-// Two's complement in 32 bits.
+/// Two's complement in 32 bits.
 fn bits_of(x: i32) -> u32
     ensures { result ≡ twos x }
 {
-    if x < 0 {
-        ((x as i64) + 4_294_967_296) as u32
-    } else {
-        x as u32
-    }
+    x.cast_unsigned()
+}
+
+/// The figure of the chosen nodes answered where no cause refuses it.
+fn answer_figure(
+    plan: &[u8],
+    table: &[u8],
+    choice: u64,
+    limit: u64,
+    answer: &mut [u8],
+) -> Result<(), CallCause>
+    ensures returned { call_returned result ≡ (figure_outcome plan.now table.now choice limit answer.old).returned }
+    ensures answer_after { answer.new ≡ (figure_outcome plan.now table.now choice limit answer.old).buffer }
+{
+    refusals::chosen_verdict(plan, table, choice, limit, answer.len())?;
+    let net = loading::network_of(plan, table).with_chosen(choice as u32);
+    let f = factoring::work(net, limit);
+    answers::put_answer(answer, f.low, f.high, f.steps, f.finished);
+    Ok(())
+}
+
+/// The same of a link's importance.
+fn answer_importance(
+    plan: &[u8],
+    table: &[u8],
+    place: u64,
+    limit: u64,
+    answer: &mut [u8],
+) -> Result<(), CallCause>
+    ensures returned { call_returned result ≡ (importance_outcome plan.now table.now place limit answer.old).returned }
+    ensures answer_after { answer.new ≡ (importance_outcome plan.now table.now place limit answer.old).buffer }
+{
+    refusals::importance_verdict(plan, table, place, limit, answer.len())?;
+    let gain = comparisons::importance(loading::network_of(plan, table), place as usize, limit);
+    answers::put_answer(answer, gain.low, gain.high, gain.steps, gain.finished);
+    Ok(())
+}
+
+/// The same of the difference of two plans.
+fn answer_difference(
+    first: &[u8],
+    second: &[u8],
+    table: &[u8],
+    limit: u64,
+    answer: &mut [u8],
+) -> Result<(), CallCause>
+    ensures returned { call_returned result ≡ (difference_outcome first.now second.now table.now limit answer.old).returned }
+    ensures answer_after { answer.new ≡ (difference_outcome first.now second.now table.now limit answer.old).buffer }
+{
+    refusals::figure_verdict(first, table, limit, answer.len())?;
+    refusals::second_verdict(second)?;
+    let d = comparisons::difference(
+        loading::network_of(first, table),
+        loading::network_of(second, table),
+        limit,
+    );
+    answers::put_answer(answer, bits_of(d.low), bits_of(d.high), d.steps, d.finished);
+    Ok(())
 }
 
 #[unsafe(no_mangle)]
@@ -38,14 +92,7 @@ pub extern "C" fn figure(
     ensures value { result ≡ (figure_outcome plan.now table.now choice limit answer.old).returned }
     ensures answer_after { answer.new ≡ (figure_outcome plan.now table.now choice limit answer.old).buffer }
 {
-    let v = refusals::chosen_verdict(plan, table, choice, limit, answer.len());
-    if let CallVerdict::Refused(_) = v {
-        return causes::call_returned(v);
-    }
-    let net = loading::network_of(plan, table).with_chosen(choice as u32);
-    let f = factoring::work(net, limit);
-    answers::put_answer(answer, f.low, f.high, f.steps, f.finished);
-    0
+    causes::call_returned(answer_figure(plan, table, choice, limit, answer))
 }
 
 #[unsafe(no_mangle)]
@@ -59,13 +106,7 @@ pub extern "C" fn importance(
     ensures value { result ≡ (importance_outcome plan.now table.now place limit answer.old).returned }
     ensures answer_after { answer.new ≡ (importance_outcome plan.now table.now place limit answer.old).buffer }
 {
-    let w = refusals::importance_verdict(plan, table, place, limit, answer.len());
-    if let CallVerdict::Refused(_) = w {
-        return causes::call_returned(w);
-    }
-    let gain = comparisons::importance(loading::network_of(plan, table), place as usize, limit);
-    answers::put_answer(answer, gain.low, gain.high, gain.steps, gain.finished);
-    0
+    causes::call_returned(answer_importance(plan, table, place, limit, answer))
 }
 
 #[unsafe(no_mangle)]
@@ -79,21 +120,7 @@ pub extern "C" fn difference(
     ensures value { result ≡ (difference_outcome first.now second.now table.now limit answer.old).returned }
     ensures answer_after { answer.new ≡ (difference_outcome first.now second.now table.now limit answer.old).buffer }
 {
-    let a = refusals::figure_verdict(first, table, limit, answer.len());
-    if let CallVerdict::Refused(_) = a {
-        return causes::call_returned(a);
-    }
-    let b = refusals::second_verdict(second);
-    if let CallVerdict::Refused(_) = b {
-        return causes::call_returned(b);
-    }
-    let d = comparisons::difference(
-        loading::network_of(first, table),
-        loading::network_of(second, table),
-        limit,
-    );
-    answers::put_answer(answer, bits_of(d.low), bits_of(d.high), d.steps, d.finished);
-    0
+    causes::call_returned(answer_difference(first, second, table, limit, answer))
 }
 
 #[unsafe(no_mangle)]

@@ -301,11 +301,6 @@ module _ (t : Tree) (i : ℕ) (e : Link) (s b : Tree) (row : List ℕ) (k : ℕ)
         go true = aside-few m b d (opens_in row (suc k) inner) l
         go false = subst (λ (u : Tree). length (aside u l) ≤ m) (resumed-none b) (aside-few m b d [] l)
 
--- nothing is left of the broken branch
-pub broken-ready : {b : Tree} {f : Direction → ℕ} → b ≡ ready f → (row : List ℕ) (k inner : ℕ) (kn : Bool) → broken_of b row k inner kn ≡ ready f
-broken-ready {b} {f} is row k inner true = ap (λ (u : Tree). resumed u (opens_in row (suc k) inner)) is ∙ resumed-ready f (opens_in row (suc k) inner)
-broken-ready {b} {f} is row k inner false = is
-
 -- a split takes no step that is not there
 pub own-fits : (c l own : ℕ) → own ≡ 1 - c → (eqb c 0 && eqb l 0) ≡ false → own ≤ l
 own-fits zero zero own p h = absurd (true≢false h)

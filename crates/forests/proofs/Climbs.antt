@@ -2,10 +2,12 @@
 use Prim.Native.Nat.{ℕ, zero, suc, ◌+◌, ◌-◌, ◌≤◌, ◌<◌}
 use mathlib.Core.Path.{◌≡◌, refl, sym, ap, subst, ◌∙◌}
 use mathlib.Core.List.{List}
-use mathlib.Core.Bool.{Bool, false, ◌&&◌, ◌||◌, not}
+use mathlib.Core.Bool.{Bool, false, cond, ◌&&◌, ◌||◌, not}
 use mathlib.Core.Option.{Option, some, none}
 use native.Mathlib.Omega.{arith}
+use lib.Dec.{ltb}
 use lib.ListN.{length, get_or, set}
+use Rattle.std.specs.Prelude.{Option as Perhaps, Some, None}
 use Rattle.bits.specs.Members.{members, first_of, both, difference}
 use Rattle.search.proofs.Sets.{has as in-set, has-none}
 use Rattle.reliability.specs.Networks.{Ends}
@@ -15,8 +17,7 @@ use Rattle.game.proofs.Searches.{Result, Placeable, search-law}
 use Rattle.forests.specs.declared.Links.{Links}
 use Rattle.labelling.specs.Places.{places_of}
 use Rattle.forests.specs.Links.{links_of, Fit, Cuts, Takes}
-use Rattle.labelling.proofs.Laws.{table_same}
-use Rattle.labelling.proofs.Laws.{first-is, first-not, meet-same, difference-same}
+use Rattle.labelling.proofs.Laws.{table_same, first-is, first-not, found-below, none_below, meet-same, difference-same}
 use Rattle.forests.proofs.Tables.{length-links}
 
 module _ (l : Links) (marks : List ℕ) (one two : ℕ) (fit : Fit l) (tables : Takes l marks one two) where
@@ -80,23 +81,34 @@ module _ (l : Links) (marks : List ℕ) (one two : ℕ) (fit : Fit l) (tables : 
   unfolding climb
   climb-none fuel lev s e = rw e refl
 
-  module _ (fuel lev s : ℕ) (some-fuel : 0 < fuel) (r₁ d₁ : ℕ) (e₁ : members r₁ ≡ both (members s) (members one)) (low₁ : d₁ ≡ first_of (members r₁)) where
-    pub climb-one : d₁ < m → place d₁ 1 lev ≡ climb es marks fuel lev (places_of m s)
-    climb-one h = sym (by fuel lev s (some d₁) _ _ some-fuel (taken 1 one tables.0 s r₁ d₁ e₁ low₁ h) refl refl)
+  -- the lowest place of r that is below m
+  abbrev Lowest : ℕ → Perhaps ℕ → Type 0
+  Lowest r o = o ≡ cond (ltb (first_of (members r)) m) (Some (first_of (members r))) None
 
-    module _ (h₁ : m ≤ d₁) (r₂ d₂ : ℕ) (e₂ : members r₂ ≡ both (members s) (members two)) (low₂ : d₂ ≡ first_of (members r₂)) where
-      pub climb-two : d₂ < m → place d₂ 2 lev ≡ climb es marks fuel lev (places_of m s)
-      climb-two h = sym (by fuel lev s none (some d₂) _ some-fuel (untaken 1 one tables.0 s r₁ d₁ e₁ low₁ h₁) (taken 2 two tables.1 s r₂ d₂ e₂ low₂ h) refl)
+  module _ (fuel lev s : ℕ) (some-fuel : 0 < fuel) (r₁ : ℕ) (o₁ : Perhaps ℕ) (e₁ : members r₁ ≡ both (members s) (members one)) (is₁ : Lowest r₁ o₁) where
+    pub climb-one : (d : ℕ) → o₁ ≡ Some d → place d 1 lev ≡ climb es marks fuel lev (places_of m s)
+    climb-one d e = let (low, h) = found-below _ m o₁ is₁ d e in sym (by fuel lev s (some d) _ _ some-fuel (taken 1 one tables.0 s r₁ d e₁ low h) refl refl)
 
-      module _ (h₂ : m ≤ d₂) (up : ℕ) (is : places_of m up ≡ next es marks (places_of m s)) (r₃ d₃ : ℕ) (e₃ : members r₃ ≡ difference (members up) (members s)) (low₃ : d₃ ≡ first_of (members r₃)) where
-        pub climb-on : d₃ < m → climb es marks (fuel - 1) (lev + 1) (places_of m up) ≡ climb es marks fuel lev (places_of m s)
-        climb-on h =
-            (let e : lev + 1 ≡ suc lev = omega arith in λ i. climb es marks (fuel - 1) (e i) (is i))
-            ∙ sym (by fuel lev s none none (some d₃) some-fuel (untaken 1 one tables.0 s r₁ d₁ e₁ low₁ h₁) (untaken 2 two tables.1 s r₂ d₂ e₂ low₂ h₂) (some-new s up r₃ d₃ is e₃ low₃ h))
+    module _ (none₁ : o₁ ≡ None) (r₂ : ℕ) (o₂ : Perhaps ℕ) (e₂ : members r₂ ≡ both (members s) (members two)) (is₂ : Lowest r₂ o₂) where
+      not-one : first (length es) (λ d. has (places_of m s) d && has (takes es marks 1) d) ≡ none
+      not-one = untaken 1 one tables.0 s r₁ (first_of (members r₁)) e₁ refl (none_below _ m o₁ is₁ none₁)
 
-        pub climb-closed : m ≤ d₃ → closed (places_of m s) ≡ climb es marks fuel lev (places_of m s)
-        climb-closed h =
-            sym (by fuel lev s none none none some-fuel (untaken 1 one tables.0 s r₁ d₁ e₁ low₁ h₁) (untaken 2 two tables.1 s r₂ d₂ e₂ low₂ h₂) (none-new s up r₃ d₃ is e₃ low₃ h))
+      pub climb-two : (d : ℕ) → o₂ ≡ Some d → place d 2 lev ≡ climb es marks fuel lev (places_of m s)
+      climb-two d e = let (low, h) = found-below _ m o₂ is₂ d e in sym (by fuel lev s none (some d) _ some-fuel not-one (taken 2 two tables.1 s r₂ d e₂ low h) refl)
+
+      module _ (none₂ : o₂ ≡ None) (up : ℕ) (is : places_of m up ≡ next es marks (places_of m s)) (r₃ : ℕ) (o₃ : Perhaps ℕ) (e₃ : members r₃ ≡ difference (members up) (members s)) (is₃ : Lowest r₃ o₃) where
+        not-two : first (length es) (λ d. has (places_of m s) d && has (takes es marks 2) d) ≡ none
+        not-two = untaken 2 two tables.1 s r₂ (first_of (members r₂)) e₂ refl (none_below _ m o₂ is₂ none₂)
+
+        pub climb-on : (d : ℕ) → o₃ ≡ Some d → climb es marks (fuel - 1) (lev + 1) (places_of m up) ≡ climb es marks fuel lev (places_of m s)
+        climb-on d e =
+            let (low, h) = found-below _ m o₃ is₃ d e in
+            (let z : lev + 1 ≡ suc lev = omega arith in λ i. climb es marks (fuel - 1) (z i) (is i))
+            ∙ sym (by fuel lev s none none (some d) some-fuel not-one not-two (some-new s up r₃ d is e₃ low h))
+
+        pub climb-closed : o₃ ≡ None → closed (places_of m s) ≡ climb es marks fuel lev (places_of m s)
+        climb-closed none₃ =
+            sym (by fuel lev s none none none some-fuel not-one not-two (none-new s up r₃ (first_of (members r₃)) is e₃ refl (none_below _ m o₃ is₃ none₃)))
 
 -- from the first level on
 pub search-start : (l : Links) (marks : List ℕ) (ds : ℕ) → places_of l.m ds ≡ table l.m (marked 0 marks) → climb (links_of l) marks (l.m + 1) 0 (places_of l.m ds) ≡ search (links_of l) marks

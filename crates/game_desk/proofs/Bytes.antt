@@ -1,10 +1,11 @@
 -- The links of a plan by place, and the 98 bytes.
-use Prim.Native.Nat.{ℕ, zero, suc, ◌+◌, ◌<◌}
+use Prim.Native.Nat.{ℕ, zero, suc, ◌+◌, ◌≤◌, ◌<◌}
 use mathlib.Core.Path.{◌≡◌, refl, sym, ap, ap₂, ◌∙◌}
-use mathlib.Core.List.{List, [], ◌∷◌, ◌++◌, map}
+use mathlib.Core.List.{List, [], ◌∷◌, ◌++◌, map, append_assoc}
 use native.Mathlib.Omega.{arith}
-use lib.ListN.{length, get_or, take, drop}
+use lib.ListN.{length, get_or, set, take, drop}
 use lib.Seq.{take_at, drop_at, drop-drop}
+use borrow.Rule.Slice.PartMut.{put_mid}
 use Rattle.ratings.specs.Ratings.{T}
 use Rattle.reliability.specs.Networks.{Ends, ends}
 use Rattle.search.specs.Searches.{from}
@@ -24,18 +25,11 @@ links-read plan as₁ bs i (suc k) h =
     ap₂ (λ (x : Ends) (l : List Ends). x ∷ l) (λ z. record { a = e.0 z; b = e.1 z }) (links-read plan as₁ bs (suc i) k (λ j l. h j (omega arith)))
 
 -- two bytes, 64 bytes behind them and 32 behind these
-pub laid : (b ts hs : List ℕ) (x y : ℕ) → length ts ≡ 64 → length hs ≡ 32 → (b₁ b₂ b₃ : List ℕ)
-    → b₁ ≡ take 0 b ++ (x ∷ y ∷ []) ++ drop 2 b → b₂ ≡ take 2 b₁ ++ ts ++ drop (2 + length ts) b₁ → b₃ ≡ take 66 b₂ ++ hs ++ drop (66 + length hs) b₂
-    → b₃ ≡ x ∷ y ∷ (ts ++ hs ++ drop 98 b)
-laid b ts hs x y et eh b₁ b₂ b₃ e₁ e₂ e₃ =
-    let front = x ∷ y ∷ ts in
-    let rest = drop (2 + length ts) (x ∷ y ∷ drop 2 b) in
-    let is : b₂ ≡ front ++ rest = e₂ ∙ ap (λ l. take 2 l ++ ts ++ drop (2 + length ts) l) e₁ in
-    let size : length front ≡ 66 = omega arith in
-    let back : drop (66 + length hs) b₂ ≡ drop 98 b =
-    sym (drop-drop (length hs) 66 b₂)
-    ∙ ap (drop (length hs)) (ap (drop 66) is ∙ drop_at front rest 66 size)
-    ∙ drop-drop (length hs) (2 + length ts) (x ∷ y ∷ drop 2 b)
-    ∙ (let s : 2 + length ts + length hs ≡ 98 = omega arith in ap (λ k. drop k (x ∷ y ∷ drop 2 b)) s)
-    ∙ drop-drop 96 2 b in
-    e₃ ∙ ap₂ (λ k l. k ++ hs ++ l) (ap (take 66) is ∙ take_at front rest 66 size) back
+pub laid : (b ts hs : List ℕ) (x y : ℕ) → 98 ≤ length b → length ts ≡ 64 → length hs ≡ 32
+    → put_mid 66 32 (put_mid 2 64 (set (set b 0 x) 1 y) ts) hs ≡ x ∷ y ∷ (ts ++ hs ++ drop 98 b)
+laid [] ts hs x y room et eh = absurd (omega arith)
+laid (p ∷ []) ts hs x y room et eh = absurd (omega arith)
+laid (p ∷ q ∷ r) ts hs x y room et eh =
+    let front : take 64 (ts ++ drop 64 r) ≡ ts = take_at ts (drop 64 r) 64 et in
+    let back : drop 32 (drop 64 (ts ++ drop 64 r)) ≡ drop 96 r = ap (drop 32) (drop_at ts (drop 64 r) 64 et) ∙ drop-drop 32 64 r in
+    ap₂ (λ k l. x ∷ y ∷ (k ++ (hs ++ l))) front back ∙ ap (λ l. x ∷ y ∷ l) (sym (append_assoc ts hs (drop 96 r)))

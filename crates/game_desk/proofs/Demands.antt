@@ -18,8 +18,8 @@ use Rattle.plan.proofs.Verdicts.{accepted-means}
 use Rattle.plan.proofs.Links.{same_ends}
 use Rattle.plan.proofs.Accepted.{plan-valid}
 use Rattle.causes.specs.declared.CallCause.{CallCause}
-use Rattle.causes.specs.declared.CallVerdict.{CallVerdict}
-use Rattle.causes.specs.declared.CallVerdict.TheVariants.{Accepted, Refused}
+use Rattle.causes.specs.Causes.{CallVerdict}
+use Rattle.std.specs.Prelude.{Ok, Err}
 use Rattle.causes.specs.Causes.{call_returned}
 use Rattle.causes.specs.Outcomes.{unless, Refusal}
 use Rattle.causes.proofs.Laws.{call-number-range}
@@ -52,7 +52,7 @@ module _ (plan b : List ℕ) where
   game-returned = refl
 
   -- 0 exactly when the verdict is accepted
-  game-zero : r ≡ 0 ↔ v ≡ Accepted
+  game-zero : r ≡ 0 ↔ v ≡ Ok tt
   game-zero = zero_of v game-returned
 
   -- a buffer of 98 bytes at least and an accepted plan, and no other call
@@ -65,17 +65,17 @@ module _ (plan b : List ℕ) where
   outcome-returned s = go v
     where
       go : (u : CallVerdict) → (unless u b (with_game plan s b)).returned ≡ call_returned u
-      go Accepted = refl
-      go (Refused c) = refl
+      go (Ok tt) = refl
+      go (Err c) = refl
 
   module _ (after : List ℕ) (left : GameLeaves plan b after) where
     -- a refused call leaves the buffer as it was
-    pub game-refused : (c : CallCause) → v ≡ Refused c → (r ≡ call_returned (Refused c)) × (after ≡ b)
+    pub game-refused : (c : CallCause) → v ≡ Err c → (r ≡ call_returned (Err c)) × (after ≡ b)
     unfolding game_outcome
     game-refused c e = (game-returned ∙ ap call_returned e, left.buffer ∙ (rw e refl))
 
     -- an accepted one the 98 bytes, and what stood behind them
-    filled : v ≡ Accepted → after ≡ with_game plan left.shown b
+    filled : v ≡ Ok tt → after ≡ with_game plan left.shown b
     unfolding game_outcome
     filled e = left.buffer ∙ sym (answers v b (with_game plan left.shown b) e).1
 
@@ -108,8 +108,8 @@ module _ (plan b : List ℕ) where
     played-or-refused = go v refl
       where
         go : (u : CallVerdict) → v ≡ u → Played plan b after ⊎ Refusal (record { returned = r; buffer = after }) b
-        go Accepted e = inl (game-played (game-zero.1 e))
-        go (Refused c) e = let (n, same) = game-refused c e in inr (record { numbered = omega (arith, n, call-number-range c); untouched = same })
+        go (Ok tt) e = inl (game-played (game-zero.1 e))
+        go (Err c) e = let (n, same) = game-refused c e in inr (record { numbered = omega (arith, n, call-number-range c); untouched = same })
 
     -- byte 1 is 1 wherever byte 0 is: to open is no harm to the keeper
     pub opening-helps : r ≡ 0 → winner cutter plan ≡ 1 → winner keeper plan ≡ 1

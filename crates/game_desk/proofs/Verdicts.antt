@@ -6,21 +6,20 @@ use mathlib.Core.Logic.{◌↔◌}
 use lib.Dec.{ltb}
 use borrow.Author.Tests.{lt-ltb, le-ltb, ltb-false}
 use Rattle.plan.specs.declared.Cause.{Cause}
-use Rattle.plan.specs.declared.Verdict.TheVariants.{Refused as PlanRefused}
+use Rattle.std.specs.Prelude.{Ok, Err}
 use Rattle.plan.specs.Plans.{WellFormed, verdict}
 use Rattle.plan.proofs.Verdicts.{accepted-means}
 use Rattle.causes.specs.declared.CallCause.TheVariants.{Buffer, Plan}
-use Rattle.causes.specs.declared.CallVerdict.TheVariants.{Accepted, Refused}
 use Rattle.refusals.specs.Refusals.{planned}
 use Rattle.refusals.proofs.Calls.{unmet, planned-means, also-means}
 use Rattle.game_desk.specs.Games.{game_room, game_verdict}
 
 module _ (room : ℕ) where
-  pub room-means : game_room room ≡ Accepted ↔ 98 ≤ room
+  pub room-means : game_room room ≡ Ok tt ↔ 98 ≤ room
   unfolding game_room
-  room-means = (λ e. ltb-false room 98 (unmet (ltb room 98) Buffer Accepted e).0, λ h. simp (le-ltb room 98 h))
+  room-means = (λ e. ltb-false room 98 (unmet (ltb room 98) Buffer (Ok tt) e).0, λ h. simp (le-ltb room 98 h))
 
-  short : room < 98 → game_room room ≡ Refused Buffer
+  short : room < 98 → game_room room ≡ Err Buffer
   unfolding game_room
   short h = simp (lt-ltb room 98 h)
 
@@ -28,15 +27,15 @@ module _ (room : ℕ) where
 
 module _ (plan : List ℕ) (room : ℕ) where
   -- a short buffer is refused, whatever the plan
-  pub short-refused : room < 98 → game_verdict plan room ≡ Refused Buffer
+  pub short-refused : room < 98 → game_verdict plan room ≡ Err Buffer
   short-refused h = let q = short room h in rw q refl
 
   -- then the plan is refused for its own cause
-  pub plan-refused : 98 ≤ room → (c : Cause) → verdict plan ≡ PlanRefused c → game_verdict plan room ≡ Refused (Plan c)
+  pub plan-refused : 98 ≤ room → (c : Cause) → verdict plan ≡ Err c → game_verdict plan room ≡ Err (Plan c)
   plan-refused h c e = let q = (room-means room).1 h in rw (q, e) refl
 
   -- a buffer of 98 bytes at least, and an accepted plan
-  pub game-means : game_verdict plan room ≡ Accepted ↔ (98 ≤ room) × WellFormed plan
+  pub game-means : game_verdict plan room ≡ Ok tt ↔ (98 ≤ room) × WellFormed plan
   game-means =
       let w = accepted-means plan in
       let p = planned-means (verdict plan) in

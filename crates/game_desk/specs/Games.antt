@@ -4,8 +4,8 @@ use Rattle.ratings.specs.Ratings.{T}
 use Rattle.reliability.specs.Networks.{Ends, ends}
 use Rattle.plan.specs.Plans.{verdict, plan_of}
 use Rattle.causes.specs.declared.CallCause.TheVariants.{Buffer}
-use Rattle.causes.specs.declared.CallVerdict.{CallVerdict}
-use Rattle.causes.specs.declared.CallVerdict.TheVariants.{Accepted, Refused}
+use Rattle.causes.specs.Causes.{CallVerdict}
+use Rattle.std.specs.Prelude.{Ok, Err}
 use Rattle.causes.specs.Causes.{call_returned}
 use Rattle.causes.specs.Outcomes.{Outcome, unless}
 use Rattle.refusals.specs.Refusals.{also, planned}
@@ -13,7 +13,7 @@ use Rattle.game.specs.Game.{Player, cutter, keeper, keeper_wins, Certificate}
 
 -- answer buffer under 98 bytes
 unfoldable pub game_room : ℕ → CallVerdict
-game_room room = cond (ltb room 98) (Refused Buffer) Accepted
+game_room room = cond (ltb room 98) (Err Buffer) (Ok tt)
 
 -- then the plan's causes
 abbrev pub game_verdict : List ℕ → ℕ → CallVerdict
@@ -50,7 +50,7 @@ game_outcome plan s b = unless (game_verdict plan (length b)) b (with_game plan 
 -- serves; all else is as defined
 pub record GameLeaves (plan b after : List ℕ) : Type 0 where
   pub shown : Shown
-  pub certificate : game_verdict plan (length b) ≡ Accepted → Certificate (nodes_of plan) (ends_of plan) shown.trees shown.groups
+  pub certificate : game_verdict plan (length b) ≡ Ok tt → Certificate (nodes_of plan) (ends_of plan) shown.trees shown.groups
   pub buffer : after ≡ (game_outcome plan shown b).buffer
 
 -- a full answer: the two winners, a certificate in the 96 bytes behind them; later bytes and the buffer's length are as they were

@@ -7,6 +7,7 @@ use native.Mathlib.Nat.{not-suc-le-zero}
 use native.Mathlib.Omega.{arith}
 use native.Mathlib.Decide.{ℕ_discrete}
 use native.Mathlib.Numerals.{add-one}
+use mir.Val.{bool_byte}
 use lib.Dec.{eqb}
 use lib.ListN.{length, get_or, set, replicate}
 use lib.Seq.{get_or-set_same, get_or-set_other}
@@ -21,6 +22,10 @@ count-more p i c d e f = f ∙ go (p i) ∙ ap (λ n. count n p) (sym (add-one i
     go : (b : Bool) → cond b (c + 1) c ≡ elim b [ true ↦ suc (count i p) | false ↦ count i p ]
     go true = add-one c ∙ ap suc e
     go false = e
+
+pub byte-more : (b : Bool) (c r : ℕ) → r ≡ bool_byte b → c + r ≡ cond b (c + 1) c
+byte-more true c r e = omega arith
+byte-more false c r e = omega arith
 
 pub tally-most : (b : Bool) (c d i : ℕ) → d ≡ cond b (c + 1) c → c ≤ i → d ≤ i + 1
 tally-most true c d i e h = omega arith

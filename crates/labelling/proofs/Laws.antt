@@ -1,23 +1,22 @@
 -- Laws of labels and of sets by place.
 use Prim.Native.Nat.{ℕ, zero, suc, ◌+◌, ◌≤◌, ◌<◌, min, max}
 use mathlib.Core.Path.{◌≡◌, refl, sym, ap, ap₂, ◌∙◌}
-use mathlib.Core.List.{List, [], ◌∷◌, ◌++◌}
+use mathlib.Core.List.{List, [], ◌∷◌}
 use mathlib.Core.Bool.{Bool, true, false, cond, ◌&&◌, ◌||◌, true≢false, not}
 use native.Mathlib.Nat.{not-suc-le-zero, le_refl}
 use native.Mathlib.Decide.{ℕ_discrete, dec_lt}
 use native.Mathlib.Omega.{arith}
 use lib.Dec.{eqb, ltb}
-use lib.ListN.{length, get_or, set, take}
-use lib.Seq.{take_all, take-suc-set}
-use native.Mathlib.Numerals.{add-one}
+use lib.ListN.{length, get_or, set}
 use borrow.Author.Tests.{eq-eqb, ne_eqb, lt-ltb, le-ltb}
 use Rattle.bits.specs.Members.{members, first_of, both, difference}
-use Rattle.search.specs.Searches.{from}
 use Rattle.search.proofs.Sets.{has as in-set, has-none, has-with, has-zip}
 use Rattle.reliability.specs.Networks.{merge}
 use Rattle.game.specs.Game.{some_below}
 use Rattle.game.specs.Forests.{table, has, first}
 use mathlib.Core.Option.{Option, some, none}
+use Rattle.std.specs.Prelude.{Option as Perhaps, Some, None}
+use Rattle.std.specs.Option.{is_some}
 use Rattle.bits.proofs.Digits.{length_digits}
 use Rattle.game.proofs.Below.{some_of, some-fails}
 use Rattle.game.proofs.Levels.{has-table}
@@ -31,18 +30,6 @@ merge-max x y z h = rw (eq-eqb z (max x y) h)
 pub merge-other : (x y z : ℕ) → (z ≡ max x y → ⊥) → merge x y z ≡ z
 unfolding merge
 merge-other x y z h = rw (ne_eqb z (max x y) h)
-
--- one number more
-pub from_more : (i k : ℕ) → from i (suc k) ≡ from i k ++ ((i + k) ∷ [])
-unfolding from
-from_more i zero = let e : i ≡ i + 0 = omega arith in ap {B = List ℕ} (λ x. x ∷ []) e
-from_more i (suc k) = ap {B = List ℕ} (λ r. i ∷ r) (from_more (suc i) k ∙ (let e : suc i + k ≡ i + suc k = omega arith in ap (λ x. from (suc i) k ++ (x ∷ [])) e))
-
-pub own_turn : (l : List ℕ) (k : ℕ) → k < length l → take k l ≡ from 0 k → take (k + 1) (set l k k) ≡ from 0 (k + 1)
-own_turn l k h e = rw (add-one, take-suc-set l k k h, e) (sym (from_more 0 k ∙ (let z : 0 + k ≡ k = omega arith in ap (λ x. from 0 k ++ (x ∷ [])) z)))
-
-pub own-end : (l : List ℕ) (k : ℕ) → length l ≤ k → k ≡ 32 → take k l ≡ from 0 k → l ≡ from 0 32
-own-end l k h f e = sym (take_all k l h) ∙ e ∙ ap (from 0) f
 
 -- ---- a set built place by place
 
@@ -76,13 +63,6 @@ module _ (q : ℕ → Bool) where
       go : (p : ℕ) → p < i + 1 → Dec (p ≡ i) → in-set s p ≡ q p
       go p k (yes z) = rw z (u.above i (le_refl i) ∙ sym t)
       go p k (no n) = u.below p (omega arith)
-
-  pub upto_put : (s r i : ℕ) → Upto q s i → members r ≡ cond (q i) (set (members s) i true) (members s) → i < 64 → Upto q r (i + 1)
-  upto_put s r i u e l = go (q i) refl e
-    where
-      go : (b : Bool) → q i ≡ b → members r ≡ cond b (set (members s) i true) (members s) → Upto q r (i + 1)
-      go true t e = upto-in s r i u t e l
-      go false t e = upto-out r i (record { below = λ p k. ap (λ (bs : List Bool). get_or bs p false) e ∙ u.below p k; above = λ p k. ap (λ (bs : List Bool). get_or bs p false) e ∙ u.above p k }) t
 
   pub upto-end : (s i m : ℕ) → Upto q s i → m ≤ i → places_of m s ≡ table m q
   upto-end s i m u h = table_same m (in-set s) q (λ p l. u.below p (omega arith))
@@ -133,6 +113,36 @@ module _ (r d m : ℕ) (q : ℕ → Bool) (same : (p : ℕ) → p < m → in-set
       go : (o : Option ℕ) → first m q ≡ o → o ≡ none
       go none e = refl
       go (some i) e = let s = first_some m q i e in absurd (true≢false (sym s.1 ∙ lowest-out i s.0 (omega (arith, s.0))))
+
+-- a lowest place that is below m, or not
+module _ (x m : ℕ) (o : Perhaps ℕ) (is : o ≡ cond (ltb x m) (Some x) None) where
+  pub found-below : (d : ℕ) → o ≡ Some d → (d ≡ x) × (d < m)
+  found-below d e = go (dec_lt x m)
+    where
+      go : Dec (x < m) → (d ≡ x) × (d < m)
+      go (yes h) =
+          let f : Some x ≡ Some d = ap (λ t. cond t (Some x) None) (sym (lt-ltb x m h)) ∙ sym is ∙ e in
+          let z : x ≡ d = cc in
+          (sym z, omega (arith, z))
+      go (no h) =
+          let f : ◌≡◌ {A = Perhaps ℕ} None (Some d) = ap (λ t. cond t (Some x) None) (sym (le-ltb x m (omega arith))) ∙ sym is ∙ e in
+          absurd cc
+
+  pub is_below : is_some o ≡ ltb x m
+  is_below = ap is_some is ∙ go (ltb x m)
+    where
+      go : (t : Bool) → is_some (cond t (Some x) None) ≡ t
+      go true = refl
+      go false = refl
+
+  pub none_below : o ≡ None → m ≤ x
+  none_below e = go (dec_lt x m)
+    where
+      go : Dec (x < m) → m ≤ x
+      go (yes h) =
+          let f : Some x ≡ None = ap (λ t. cond t (Some x) None) (sym (lt-ltb x m h)) ∙ sym is ∙ e in
+          absurd cc
+      go (no h) = omega arith
 
 -- places of sets below m
 pub placed_at : (m s p : ℕ) → p < m → has (places_of m s) p ≡ in-set s p

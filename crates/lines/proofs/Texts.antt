@@ -1,15 +1,18 @@
 -- Text written part by part, and numbers in decimal.
 use Prim.Native.Nat.{ℕ, zero, suc, ◌+◌, ◌-◌, ◌*◌, ◌/◌, ◌%◌, ◌^◌, ◌≤◌, ◌<◌}
 use mathlib.Core.Path.{◌≡◌, refl, sym, ap, ap₂, ◌∙◌}
-use mathlib.Core.List.{List, [], ◌∷◌, ◌++◌}
+use mathlib.Core.List.{List, [], ◌∷◌, ◌++◌, append_assoc}
 use mathlib.Core.Bool.{Bool, true, false, ◌&&◌}
 use native.Mathlib.Omega.{arith, pow_step}
 use native.Mathlib.Decide.{dec_lt}
 use native.Mathlib.Numerals.{add-one}
 use native.Mathlib.Nat.{add-zero, div-lt_iff_lt-mul}
 use lib.Dec.{leb}
-use lib.ListN.{length, length-append, get_or, set, drop, drop_of_length-le}
-use lib.Seq.{sets, length-sets, drop-cons}
+use lib.ListN.{length, length-append, get_or, set, take, drop, drop_of_length-le}
+use lib.Seq.{sets, sets-eq, length-sets, drop-cons, drop-drop}
+use borrow.Rule.Slice.PartMut.{put_mid}
+use Rattle.std.specs.Fmt.{decimal as written}
+use Rattle.std.proofs.lemmas.Fmt.{length-decimal-le, decimal_from_appends}
 use borrow.Author.Tests.{lt-ltb, le-ltb, leb-true}
 use Rattle.lines.specs.Lines.{Puts, digit, decimal_of, decimal, is_digit, meant, filled}
 
@@ -68,18 +71,6 @@ tenth k x h =
     let ten : 0 < 10 = omega arith in
     (div-lt_iff_lt-mul {k = 10} {x = x} {y = 10 ^ k} ten).1 e
 
--- digits to spare change nothing
-spare : (k x : ℕ) → x < 10 ^ suc k → decimal_of (suc (suc k)) x ≡ decimal_of (suc k) x
-spare zero x h = digits-one 1 x h ∙ sym (digits-one 0 x h)
-spare (suc k) x h = go (dec_lt x 10) (spare k (x / 10) (tenth (suc k) x h))
-  where
-    go : Dec (x < 10) → decimal_of (suc (suc k)) (x / 10) ≡ decimal_of (suc k) (x / 10) → decimal_of (suc (suc (suc k))) x ≡ decimal_of (suc (suc k)) x
-    go (yes l) e = digits-one (suc (suc k)) x l ∙ sym (digits-one (suc k) x l)
-    go (no n) e =
-        digits_more (suc (suc k)) x (omega arith)
-        ∙ ap (λ (t : List ℕ). t ++ digit (x % 10) ∷ []) e
-        ∙ sym (digits_more (suc k) x (omega arith))
-
 length_digits : (k x : ℕ) → length (decimal_of k x) ≤ k
 length_digits zero x = rw (digits-none x) (omega arith)
 length_digits (suc k) x = go (dec_lt x 10) (length_digits k (x / 10))
@@ -88,33 +79,18 @@ length_digits (suc k) x = go (dec_lt x 10) (length_digits k (x / 10))
     go (yes l) h = rw (digits-one k x l) (omega arith)
     go (no n) h = rw (digits_more k x (omega arith), length-append (decimal_of k (x / 10)) (digit (x % 10) ∷ [])) (omega arith)
 
-pub decimal-one : (x : ℕ) → x < 10 → decimal x ≡ digit x ∷ []
-decimal-one x h = digits-one 9 x h
-
-pub decimal-more : (x : ℕ) → 10 ≤ x → x < 2 ^ 32 → decimal x ≡ decimal (x / 10) ++ digit (x % 10) ∷ []
-decimal-more x h l = digits_more 9 x h ∙ ap (λ (t : List ℕ). t ++ digit (x % 10) ∷ []) (sym (spare 8 (x / 10) (omega arith)))
-
 pub length-decimal : (x : ℕ) → length (decimal x) ≤ 10
 length-decimal x = length_digits 10 x
 
--- ---- a number written
+-- the library writes the same digits
+pub by_library : (x : ℕ) → x < 2 ^ 32 → written x ≡ decimal x
+by_library x h =
+    let most : length (written x) ≤ 10 = length-decimal-le 10 x (omega arith) (omega arith) (omega arith) in
+    sym (decimal_from_appends decimal_of (record { one = digits-one; more = digits_more }) 10 x (omega arith) most)
 
-pub length-one : (x : ℕ) → x < 10 → length (decimal x) ≡ 1
-length-one x h = ap length (decimal-one x h)
-
-pub length_more : (x : ℕ) → 10 ≤ x → x < 2 ^ 32 → length (decimal x) ≡ length (decimal (x / 10)) + 1
-length_more x h b = ap length (decimal-more x h b) ∙ length-append (decimal (x / 10)) (digit (x % 10) ∷ [])
-
-module _ (l : List ℕ) (at x : ℕ) where
-  pub puts_one : x < 10 → Puts l at (decimal x) (set l at (48 + x)) (at + 1)
-  puts_one h = (ap (sets l at) (sym (decimal-one x h)), ap (λ (k : ℕ). at + k) (sym (length-one x h)))
-
-  pub puts-more : (m : List ℕ) (behind : ℕ) → 10 ≤ x → x < 2 ^ 32 → Puts l at (decimal (x / 10)) m behind
-      → Puts l at (decimal x) (set m behind (48 + x % 10)) (behind + 1)
-  puts-more m behind h b p = (
-    ap₂ (λ (s : List ℕ) (k : ℕ). sets s k (digit (x % 10) ∷ [])) p.0 p.1 ∙ sets-append l at (decimal (x / 10)) (digit (x % 10) ∷ []) ∙ ap (sets l at) (sym (decimal-more x h b)),
-    omega (arith, p.1, length_more x h b),
-  )
+-- a part laid into a text
+pub laid : (l t : List ℕ) (at k : ℕ) → k ≡ length t → at + length t ≤ length l → put_mid at k l t ≡ sets l at t
+laid l t at k e h = rw e (ap (λ (r : List ℕ). take at l ++ (t ++ r)) (drop-drop (length t) at l) ∙ sym (append_assoc (take at l) t (drop (at + length t) l)) ∙ sym (sets-eq t l at h))
 
 -- ---- the form of a line
 

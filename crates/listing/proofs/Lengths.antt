@@ -11,8 +11,8 @@ use Rattle.ratings.specs.Ratings.{T}
 use Rattle.reliability.specs.Networks.{pieces_of}
 use Rattle.reliability.specs.Rule.{figure}
 use Rattle.reliability.specs.Comparisons.{importance}
-use Rattle.plan.specs.declared.Verdict.{Verdict}
-use Rattle.plan.specs.declared.Verdict.TheVariants.{Accepted, Refused}
+use Rattle.plan.specs.Plans.{Verdict}
+use Rattle.std.specs.Prelude.{Ok, Err}
 use Rattle.plan.specs.Plans.{size_n, size_m, verdict, link_in, plan_of}
 use Rattle.plan.proofs.Verdicts.{accepted-means}
 use Rattle.listing_lines.proofs.Lengths.{length-sizes, length-figure, length-link, length-limits, length-refused}
@@ -50,14 +50,14 @@ most = 4693
 
 module _ (plan : List ℕ) where
   pub length-listing : (v : Verdict) → verdict plan ≡ v → length (listing_by v plan) ≤ most
-  length-listing Accepted e =
+  length-listing (Ok tt) e =
       let w = (accepted-means plan).0 e in
       let f = figure (plan_of T plan) figure_limit in
       let k = pieces_of (plan_of T plan) in
       let s = sizes_line (size_n plan) (size_m plan) k in
       let l = link_lines plan 0 (size_m plan) in
       omega (arith, length-append (s ++ figure_line f ++ l) limits_line, length-append (s ++ figure_line f) l, length-append s (figure_line f), length-sizes (size_n plan) (size_m plan) k, length-figure f, length-links plan 0 (size_m plan), length-limits, w.links)
-  length-listing (Refused c) e = omega (arith, length-refused c)
+  length-listing (Err c) e = omega (arith, length-refused c)
 
   listing-is : (v : Verdict) → verdict plan ≡ v → listing plan ≡ listing_by v plan
   unfolding listing

@@ -18,8 +18,8 @@ use Rattle.reliability.specs.Comparisons.{importance}
 use Rattle.reliability.proofs.Separate.{separate-figure}
 use Rattle.reliability.proofs.Comparisons.{importance-width}
 use Rattle.plan.specs.declared.Cause.TheVariants.{Short, Nodes, Links, Length}
-use Rattle.plan.specs.declared.Verdict.{Verdict}
-use Rattle.plan.specs.declared.Verdict.TheVariants.{Accepted, Refused}
+use Rattle.plan.specs.Plans.{Verdict}
+use Rattle.std.specs.Prelude.{Ok, Err}
 use Rattle.plan.specs.Plans.{size_n, size_m, refused_if, links_verdict, verdict, plan_of}
 use Rattle.plan.proofs.Accepted.{plan-valid, plan-links, plan-nodes}
 use Rattle.plan.proofs.Weights.{plan-enclosed, others-units, others-few}
@@ -29,11 +29,11 @@ use Rattle.listing.specs.Listings.{figure_limit, importance_limit, listing_by, l
 
 -- beyond 388 bytes the links are not looked at: n, m or the length is refused
 abbrev sizes_verdict : ℕ → ℕ → Verdict
-sizes_verdict n m = refused_if (eqb n 0 || ltb 32 n) Nodes (refused_if (ltb 64 m) Links (Refused Length))
+sizes_verdict n m = refused_if (eqb n 0 || ltb 32 n) Nodes (refused_if (ltb 64 m) Links (Err Length))
 
 -- one link more than 64, or a length that is not 4 + 6 * m
 length-refused : (size m : ℕ) (v : Verdict) → 388 < size → (t : Bool) → ltb 64 m ≡ t
-    → refused_if t Links (refused_if (not (eqb size (4 + 6 * m))) Length v) ≡ refused_if t Links (Refused Length)
+    → refused_if t Links (refused_if (not (eqb size (4 + 6 * m))) Length v) ≡ refused_if t Links (Err Length)
 length-refused size m v h true e = refl
 length-refused size m v h false e =
     let l = ltb-false 64 m e in
@@ -48,7 +48,7 @@ too_long b h =
     ∙ ap nodes (length-refused (length b) (size_m b) later h (ltb 64 (size_m b)) refl)
 
 -- what is printed then is of the sizes alone
-same_text : (s t : Bool) (b c : List ℕ) → listing_by (refused_if s Nodes (refused_if t Links (Refused Length))) b ≡ listing_by (refused_if s Nodes (refused_if t Links (Refused Length))) c
+same_text : (s t : Bool) (b c : List ℕ) → listing_by (refused_if s Nodes (refused_if t Links (Err Length))) b ≡ listing_by (refused_if s Nodes (refused_if t Links (Err Length))) c
 same_text true t b c = refl
 same_text false true b c = refl
 same_text false false b c = refl
@@ -83,7 +83,7 @@ kept-at-most : (t : Bool) (n : ℕ) → cond t n (n - 1) ≤ n
 kept-at-most true n = omega arith
 kept-at-most false n = omega arith
 
-module _ (plan : List ℕ) (accepted : verdict plan ≡ Accepted) (i : ℕ) (place : i < size_m plan) where
+module _ (plan : List ℕ) (accepted : verdict plan ≡ Ok tt) (i : ℕ) (place : i < size_m plan) where
   abbrev g : Network
   g = plan_of T plan
 
@@ -100,5 +100,5 @@ module _ (plan : List ℕ) (accepted : verdict plan ≡ Accepted) (i : ℕ) (pla
 -- ---- several pieces
 
 -- the figure of a plan that lies in several pieces is 0, finished without a split
-pub listed-separate : (plan : List ℕ) → verdict plan ≡ Accepted → 1 < pieces_of (plan_of T plan) → figure (plan_of T plan) figure_limit ≡ bounded (λ d. 0) 0 true
+pub listed-separate : (plan : List ℕ) → verdict plan ≡ Ok tt → 1 < pieces_of (plan_of T plan) → figure (plan_of T plan) figure_limit ≡ bounded (λ d. 0) 0 true
 listed-separate plan accepted several = separate-figure (plan_of T plan) (plan-valid T plan built-in-range accepted) several figure_limit

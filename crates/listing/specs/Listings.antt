@@ -3,8 +3,8 @@ use Rattle.std.specs.Prelude.{ℕ, zero, suc, ◌+◌, ◌*◌, ◌≡◌, List,
 use Rattle.ratings.specs.Ratings.{T}
 use Rattle.reliability.specs.Networks.{pieces_of}
 use Rattle.reliability.specs.Rule.{figure}
-use Rattle.plan.specs.declared.Verdict.{Verdict}
-use Rattle.plan.specs.declared.Verdict.TheVariants.{Accepted, Refused}
+use Rattle.plan.specs.Plans.{Verdict}
+use Rattle.std.specs.Prelude.{Ok, Err}
 use Rattle.plan.specs.Plans.{size_n, size_m, verdict, plan_of}
 use Rattle.plan.specs.Weights.{lengths}
 pub use Rattle.listing_lines.specs.Entries.{figure_limit, importance_limit, sizes_line, figure_line, line_of, limits_line, refused_line}
@@ -19,8 +19,8 @@ link_lines plan i (suc k) = line_of plan i ++ link_lines plan (suc i) k
 -- ---- the listing, by the built-in table
 
 abbrev pub listing_by : Verdict → List ℕ → List ℕ
-listing_by Accepted plan = sizes_line (size_n plan) (size_m plan) (pieces_of (plan_of T plan)) ++ figure_line (figure (plan_of T plan) figure_limit) ++ link_lines plan 0 (size_m plan) ++ limits_line
-listing_by (Refused c) plan = refused_line c
+listing_by (Ok tt) plan = sizes_line (size_n plan) (size_m plan) (pieces_of (plan_of T plan)) ++ figure_line (figure (plan_of T plan) figure_limit) ++ link_lines plan 0 (size_m plan) ++ limits_line
+listing_by (Err c) plan = refused_line c
 
 unfoldable pub listing : List ℕ → List ℕ
 listing plan = listing_by (verdict plan) plan

@@ -1,34 +1,30 @@
-// The listing of a plan, as text.
+//! The listing of a plan, as text.
 #![tactic(auto)]
 
-ghost use Rattle.std.specs.Prelude.{◌≡◌, List, ◌++◌, ℕ, ◌+◌, ◌≤◌, length, drop};
+ghost use Rattle.std.specs.Prelude.{◌≡◌, List, ◌++◌, ℕ, ◌+◌, ◌≤◌, length, drop, Ok};
 ghost use Rattle.lines.specs.Lines.{Puts};
 ghost use Rattle.plan.specs.Plans.{size_m, verdict};
 ghost use Rattle.listing.specs.Listings.{link_lines, listing_by, listing, IsRead, Lists};
 
-use plan::Verdict;
-
-// As much as there is to read of an input: one byte more than the longest plan has.
+/// As much as there is to read of an input: one byte more than the longest plan has.
 pub const INPUT: usize = 389;
 
-// Each of these two functions returns the place behind what it has written.
+/// Each of these two functions returns the place behind what it has written.
 fn put_links(text: &mut [u8], at: usize, plan: &[u8]) -> usize
-    requires { (verdict plan.now ≡ Verdict.Accepted) × (at + length (link_lines plan.now 0 (size_m plan.now)) ≤ length text.old) }
+    requires { (verdict plan.now ≡ Ok tt) × (at + length (link_lines plan.now 0 (size_m plan.now)) ≤ length text.old) }
     ensures { Puts text.old at (link_lines plan.now 0 (size_m plan.now)) text.new result }
 {
-    let m = reader::sizes_of(plan).m as usize;
+    let m = usize::from(reader::sizes_of(plan).m);
     let mut next = at;
-    let mut i = 0;
-    while i < m {
+    for i in 0..m {
         next = listing_lines::put_link(text, next, plan, i);
-        i += 1;
     }
     next
 }
 
 fn put_plan(text: &mut [u8], plan: &[u8]) -> usize
-    requires { (verdict plan.now ≡ Verdict.Accepted) × (length (listing_by Verdict.Accepted plan.now) ≤ length text.old) }
-    ensures { Puts text.old 0 (listing_by Verdict.Accepted plan.now) text.new result }
+    requires { (verdict plan.now ≡ Ok tt) × (length (listing_by (Ok tt) plan.now) ≤ length text.old) }
+    ensures { Puts text.old 0 (listing_by (Ok tt) plan.now) text.new result }
 {
     let s = reader::sizes_of(plan);
     let net = loading::built_in(plan);
@@ -40,19 +36,19 @@ fn put_plan(text: &mut [u8], plan: &[u8]) -> usize
     listing_lines::put_limits(text, third)
 }
 
-// The listing of a plan, in the first bytes of the text, and its length.
+/// The listing of a plan, in the first bytes of the text, and its length.
 pub fn listing(plan: &[u8], text: &mut [u8; 8192]) -> usize
     ensures value { result ≡ length (listing plan.now) }
     ensures upper_bound { result ≤ length text.new }
     ensures text_after { text.new ≡ listing plan.now ++ drop (length (listing plan.now)) text.old }
 {
     match plan::verdict_of(plan) {
-        Verdict::Accepted => put_plan(text, plan),
-        Verdict::Refused(c) => listing_lines::put_refusal(text, c),
+        Ok(()) => put_plan(text, plan),
+        Err(c) => listing_lines::put_refusal(text, c),
     }
 }
 
-// The listing of an input, whatever its length, of which n bytes were read into the buffer.
+/// The listing of an input, whatever its length, of which n bytes were read into the buffer.
 pub fn listing_of_input(buffer: &[u8; INPUT], n: usize, text: &mut [u8; 8192]) -> usize
     requires { n ≤ length buffer.now }
     ensures upper_bound { result ≤ length text.new }

@@ -14,7 +14,7 @@ use Rattle.reliability.specs.Rule.{is_loop, first_at, first_pair, in_parallel}
 use Rattle.reliability.specs.Simple.{Loopless, side_by_side, unpaired}
 use Rattle.reliability.specs.Terminals.{Chosen, among}
 use Rattle.reliability.proofs.Simple.{pair-valid, pair-loopless, pair-fewer, unpaired-here, unpaired-none}
-use Rattle.search.specs.declared.Pair.TheVariants.{Both, Neither}
+use Rattle.std.specs.Prelude.{None, Some}
 use Rattle.search.specs.Searches.{places_in, nodes_in, loops, beside, pair_in}
 use Rattle.search.proofs.Sets.{has-place, mem-has}
 use Rattle.search.proofs.Answers.{first, pair-members}
@@ -46,7 +46,7 @@ module _ (n : Network) (sized : Sized n) (loopless : Loopless (network_of n)) wh
   pairs = pair-rule n sized (no-loops n sized loopless)
 
   -- links i and j are the next pair
-  module _ (i j : ℕ) (found : pair_in (beside n.a n.b) (places_in n.alive) ≡ Both i j) where
+  module _ (i j : ℕ) (found : pair_in (beside n.a n.b) (places_in n.alive) ≡ Some (i, j)) where
     pub both_used : Used n i × Used n j
     both_used =
         let m = pair-members (beside n.a n.b) (places_in n.alive) i j found in
@@ -58,12 +58,12 @@ module _ (n : Network) (sized : Sized n) (loopless : Loopless (network_of n)) wh
 
 module _ (s n : Network) (now : Joining s n) where
   -- no pair is left
-  pub all-joined : pair_in (beside n.a n.b) (places_in n.alive) ≡ Neither → (terminals_of n ≡ among (chosen_of s) (unpaired (network_of s))) × Invariant n
+  pub all-joined : pair_in (beside n.a n.b) (places_in n.alive) ≡ None → (terminals_of n ≡ among (chosen_of s) (unpaired (network_of s))) × Invariant n
   all-joined e =
       let left = sym (unpaired-none (network_of n) (pairs n now.sized now.loopless ∙ ap (paired (members n.alive)) e)) ∙ now.same in
       (ap₂ (λ (c : ℕ) (g : Graph). among (nodes_in c) g) now.chosen left, now.holds)
 
-  module _ (i j : ℕ) (found : pair_in (beside n.a n.b) (places_in n.alive) ≡ Both i j) where
+  module _ (i j : ℕ) (found : pair_in (beside n.a n.b) (places_in n.alive) ≡ Some (i, j)) where
     used : Used n i × Used n j
     used = both_used n now.sized now.loopless i j found
 

@@ -14,7 +14,7 @@ use Rattle.reliability.specs.Terminals.{Terminals, among, tree}
 use Rattle.reliability.specs.Simple.{Loopless, Plain, Simple, unpaired}
 use Rattle.reliability.proofs.Unrolled.{Below}
 use Rattle.reliability.proofs.Simple.{unpaired-simple, unpaired-tree, unpaired-fewer}
-use Rattle.search.specs.declared.Found.TheVariants.{At, Nothing}
+use Rattle.std.specs.Prelude.{None, Some}
 use Rattle.search.specs.Searches.{pick, places_in, found, loops}
 use Rattle.search.proofs.Sets.{has-place, mem-has}
 use Rattle.search.proofs.Answers.{first, hit, missed}
@@ -53,13 +53,13 @@ links-few n sized = omega (arith, pick-few (members n.alive) (all_rows n), lengt
 -- ---- loops
 
 module _ (n : Network) (sized : Sized n) where
-  pub loop-found : (i : ℕ) → found (loops n.alive n.a n.b) ≡ At i → Used n i × (first_at is_loop (links_of n) ≡ some (index_of n i))
+  pub loop-found : (i : ℕ) → found (loops n.alive n.a n.b) ≡ Some i → Used n i × (first_at is_loop (links_of n) ≡ some (index_of n i))
   loop-found i e =
       let h = hit (λ k. eqb (get_or n.a k 0) (get_or n.b k 0)) (places_in n.alive) i e in
       let u = mem-has n.alive i h.member in
       (record { below = has-place n.alive i u; used = u }, loop_rule n sized ∙ ap (map (index_of n)) h.first)
 
-  pub loop-missed : found (loops n.alive n.a n.b) ≡ Nothing → Loopless (network_of n)
+  pub loop-missed : found (loops n.alive n.a n.b) ≡ None → Loopless (network_of n)
   loop-missed e = loop_rule n sized ∙ ap (λ (l : List ℕ). map (index_of n) (first l)) (missed (loops n.alive n.a n.b) e)
 
 -- ---- what is left, by value

@@ -18,8 +18,7 @@ use Rattle.reliability.specs.Rule.{is_loop, touches, alike, first_at, places, fi
 use Rattle.reliability.specs.Terminals.{Terminals, has as listing, between, series_in}
 use Rattle.reliability.proofs.Searches.{nth}
 use Rattle.network.specs.declared.Network.{Network}
-use Rattle.search.specs.declared.Pair.{Pair}
-use Rattle.search.specs.declared.Pair.TheVariants.{Both, Neither}
+use Rattle.std.specs.Prelude.{Option as Found, None, Some}
 use Rattle.search.specs.Searches.{pick, places_in, touching, Incidence, filter, loops, beside, pair_in, with_links, across_at, between_at, in_line}
 use Rattle.network.specs.Places.{rank, terminals_of, links_of, nodes_of, chosen_of, index_of, link_of, Sized, Invariant, tally}
 use Rattle.search.proofs.Sets.{has, has-place, has-below, mem-has, listed_has, at-node}
@@ -68,35 +67,35 @@ places-pick p (true ∷ us) (x ∷ xs) h =
 
 -- ---- pairs
 
-abbrev next : Pair → Pair
-next (Both i j) = Both (suc i) (suc j)
-next Neither = Neither
+abbrev next : Found (ℕ × ℕ) → Found (ℕ × ℕ)
+next (Some (i, j)) = Some (suc i, suc j)
+next None = None
 
 -- a pair of places, among all
-abbrev pub paired : List Bool → Pair → Option (ℕ × ℕ)
-paired us (Both i j) = some (rank i us, rank j us)
-paired us Neither = none
+abbrev pub paired : List Bool → Found (ℕ × ℕ) → Option (ℕ × ℕ)
+paired us (Some (i, j)) = some (rank i us, rank j us)
+paired us None = none
 
 pair-suc : (t : ℕ → ℕ → Bool) (ks : List ℕ) → pair_in t (map suc ks) ≡ next (pair_in (λ i j. t (suc i) (suc j)) ks)
 unfolding pair_in
 pair-suc t [] = refl
 pair-suc t (k ∷ ks) =
-    ap (λ (l : List ℕ). elim l as (λ m. Pair) [ [] ↦ pair_in t (map suc ks) | j ∷ js ↦ Both (suc k) j ]) (filter-suc (t (suc k)) ks) ∙ go (filter (λ j. t (suc k) (suc j)) ks) (pair-suc t ks)
+    ap (λ (l : List ℕ). elim l as (λ m. Found (ℕ × ℕ)) [ [] ↦ pair_in t (map suc ks) | j ∷ js ↦ Some (suc k, j) ]) (filter-suc (t (suc k)) ks) ∙ go (filter (λ j. t (suc k) (suc j)) ks) (pair-suc t ks)
   where
     go : (l : List ℕ) → pair_in t (map suc ks) ≡ next (pair_in (λ i j. t (suc i) (suc j)) ks)
-        → elim (map suc l) as (λ m. Pair) [ [] ↦ pair_in t (map suc ks) | j ∷ js ↦ Both (suc k) j ] ≡ next (elim l as (λ m. Pair) [ [] ↦ pair_in (λ i j. t (suc i) (suc j)) ks | j ∷ js ↦ Both k j ])
+        → elim (map suc l) as (λ m. Found (ℕ × ℕ)) [ [] ↦ pair_in t (map suc ks) | j ∷ js ↦ Some (suc k, j) ] ≡ next (elim l as (λ m. Found (ℕ × ℕ)) [ [] ↦ pair_in (λ i j. t (suc i) (suc j)) ks | j ∷ js ↦ Some (k, j) ])
     go [] h = h
     go (j ∷ js) h = refl
 
-paired-true : (us : List Bool) (q : Pair) → Option.map sucs (paired us q) ≡ paired (true ∷ us) (next q)
+paired-true : (us : List Bool) (q : Found (ℕ × ℕ)) → Option.map sucs (paired us q) ≡ paired (true ∷ us) (next q)
 unfolding rank
-paired-true us (Both i j) = refl
-paired-true us Neither = refl
+paired-true us (Some (i, j)) = refl
+paired-true us None = refl
 
-paired-false : (us : List Bool) (q : Pair) → paired us q ≡ paired (false ∷ us) (next q)
+paired-false : (us : List Bool) (q : Found (ℕ × ℕ)) → paired us q ≡ paired (false ∷ us) (next q)
 unfolding rank
-paired-false us (Both i j) = refl
-paired-false us Neither = refl
+paired-false us (Some (i, j)) = refl
+paired-false us None = refl
 
 pub pair-pick : (us : List Bool) (xs : List Link) → length us ≤ length xs → first_pair (pick us xs) ≡ paired us (pair_in (λ i j. alike (nth xs i) (nth xs j)) (indices us))
 unfolding pick first_pair pair_in indices rank
@@ -111,11 +110,11 @@ pair-pick (true ∷ us) (x ∷ xs) h =
     (first-place (alike x) (pick us xs) ∙ ap first (places-pick (alike x) us xs (omega arith)))
     ∙ go l (ap (Option.map sucs) (pair-pick us xs (omega arith)) ∙ paired-true us (pair_in (λ i j. alike (nth xs i) (nth xs j)) (indices us))
     ∙ ap (paired (true ∷ us)) (sym (pair-suc (λ i j. alike (nth (x ∷ xs) i) (nth (x ∷ xs) j)) (indices us))))
-    ∙ ap (λ (m : List ℕ). paired (true ∷ us) (elim m as (λ m. Pair) [ [] ↦ pair_in (λ i j. alike (nth (x ∷ xs) i) (nth (x ∷ xs) j)) (map suc (indices us)) | j ∷ js ↦ Both zero j ])) (sym (filter-suc (λ j. alike x (nth (x ∷ xs) j)) (indices us)))
+    ∙ ap (λ (m : List ℕ). paired (true ∷ us) (elim m as (λ m. Found (ℕ × ℕ)) [ [] ↦ pair_in (λ i j. alike (nth (x ∷ xs) i) (nth (x ∷ xs) j)) (map suc (indices us)) | j ∷ js ↦ Some (zero, j) ])) (sym (filter-suc (λ j. alike x (nth (x ∷ xs) j)) (indices us)))
   where
     go : (l : List ℕ) → Option.map sucs (first_pair (pick us xs)) ≡ paired (true ∷ us) (pair_in (λ i j. alike (nth (x ∷ xs) i) (nth (x ∷ xs) j)) (map suc (indices us)))
         → elim (first (map (λ k. rank k us) l)) as (λ m. Option (ℕ × ℕ)) [ some j ↦ some (zero, suc j) | none ↦ Option.map sucs (first_pair (pick us xs)) ]
-        ≡ paired (true ∷ us) (elim (map suc l) as (λ m. Pair) [ [] ↦ pair_in (λ i j. alike (nth (x ∷ xs) i) (nth (x ∷ xs) j)) (map suc (indices us)) | j ∷ js ↦ Both zero j ])
+        ≡ paired (true ∷ us) (elim (map suc l) as (λ m. Found (ℕ × ℕ)) [ [] ↦ pair_in (λ i j. alike (nth (x ∷ xs) i) (nth (x ∷ xs) j)) (map suc (indices us)) | j ∷ js ↦ Some (zero, j) ])
     go [] r = r
     go (j ∷ js) r = refl
 
@@ -124,7 +123,7 @@ pair_same : (s t : ℕ → ℕ → Bool) (ks : List ℕ) → ((i : ℕ) → Mem�
 unfolding pair_in
 pair_same s t [] h = refl
 pair_same s t (k ∷ ks) h =
-    ap₂ (λ (p : ℕ → Bool) (q : Pair). elim (filter p ks) as (λ m. Pair) [ [] ↦ q | j ∷ js ↦ Both k j ]) (fun_ext (h k (Memᴰ.head refl))) (pair_same s t ks (λ i m. h i (Memᴰ.tail m)))
+    ap₂ (λ (p : ℕ → Bool) (q : Found (ℕ × ℕ)). elim (filter p ks) as (λ m. Found (ℕ × ℕ)) [ [] ↦ q | j ∷ js ↦ Some (k, j) ]) (fun_ext (h k (Memᴰ.head refl))) (pair_same s t ks (λ i m. h i (Memᴰ.tail m)))
 
 crossed : (p q r s : Bool) → (p ≡ true → r ≡ true → ⊥) → (q ≡ true → s ≡ true → ⊥) → ((p && s) || (q && r)) ≡ ((p || q) && (r || s))
 crossed true q true s f g = absurd (f refl refl)

@@ -83,10 +83,6 @@ pub record Invariant (n : Network) : Type 0 where
 abbrev pub tally : Network → ℕ → ℕ
 tally n v = how_many (members (get_or n.at v 0))
 
--- a network put together from its parts
-abbrev pub assembled : ℕ → ℕ → ℕ → List ℕ → List ℕ → List ℕ → List ℕ → List ℕ → Network
-assembled alive nodes chosen at as₁ bs lows highs = record { alive = alive; at = at; low = lows; high = highs; a = as₁; b = bs; nodes = nodes; chosen = chosen }
-
 -- a network that is being built: its k links stand at the places 0 to k − 1
 unfoldable pub Built : Network → ℕ → Type 0
 Built n k = members n.alive ≡ replicate k true ++ replicate (64 - k) false

@@ -8,21 +8,12 @@ use lib.Dec.{eqb}
 use lib.ListN.{length, get_or, set, length-set}
 use lib.Seq.{lt-length-set, get_or-set_same, get_or-set_other}
 use Rattle.bits.specs.Members.{members, first_of, how_many, either}
-use Rattle.bits.proofs.Digits.{length_digits, digits-empty}
+use Rattle.bits.proofs.Digits.{length_digits}
 use Rattle.bits.proofs.Places.{get_or-zip_with}
 use Rattle.reliability.proofs.Lists.{by_eqb}
 use Rattle.search.proofs.Sets.{has, has-none, same_length}
 use Rattle.search.proofs.Marks.{Lowest, lowest-in}
 use Rattle.parts.specs.Tallies.{Written, Merged, changed_at}
-
--- a set is written at node x
-pub written : (b : Bool) (at : List ℕ) (x k s : ℕ) → x < length at → members s ≡ set (members (get_or at x 0)) k b → Written b x k at (set at x s)
-written b at x k s h e = record {
-  size = length-set at x s;
-  sets = λ v. by_eqb (λ t. members (get_or (set at x s) v 0) ≡ cond t (set (members (get_or at v 0)) k b) (members (get_or at v 0))) x v
-      (λ q. rw (← q) (ap members (get_or-set_same at x s 0 h) ∙ e))
-      (λ n. ap members (get_or-set_other at x v s 0 (λ q. n (sym q))));
-}
 
 -- what is then in the set at v
 pub has-written : (b : Bool) (x k : ℕ) (at after : List ℕ) → k < 64 → Written b x k at after
@@ -96,6 +87,3 @@ pub changed-lowest : (f : ℕ → ℕ) (t k r : ℕ) (xs : List ℕ) (y : ℕ) �
 changed-lowest f t k r xs y l rest e =
     ap (λ (us : List Bool). changed_at f us (set xs k y)) (rest ∙ ap (λ (i : ℕ). set (members t) i false) (sym l.first))
     ∙ changed-here f (members t) xs k y (lowest-in t k l) e
-
-pub changed-empty : (f : ℕ → ℕ) (t : ℕ) (xs : List ℕ) → t ≡ 0 → changed_at f (members t) xs ≡ xs
-changed-empty f t xs e = ap (λ (s : ℕ). changed_at f (members s) xs) e ∙ changed-none f (members 0) xs ((digits-empty 64 0 (omega arith)).1 refl)

@@ -9,6 +9,12 @@ pub record Written (b : Bool) (x k : ℕ) (before after : List ℕ) : Type 0 whe
   pub size : length after ≡ length before
   pub sets : (v : ℕ) → members (get_or after v 0) ≡ cond (eqb x v) (set (members (get_or before v 0)) k b) (members (get_or before v 0))
 
+-- place k is in the set at neither x nor y now; all else is as before
+pub record Unlinked (x y k : ℕ) (before after : List ℕ) : Type 0 where
+  pub half : List ℕ
+  pub first : Written false x k before half
+  pub second : Written false y k half after
+
 -- the links at gone are at keep now; all else is as before
 pub record Merged (keep gone : ℕ) (before after : List ℕ) : Type 0 where
   pub size : length after ≡ length before

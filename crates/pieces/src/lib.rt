@@ -1,4 +1,4 @@
-// The pieces in which the links in use leave the nodes: numbers and arrays alone.
+//! The pieces in which the links in use leave the nodes: numbers and arrays alone.
 #![tactic(auto)]
 
 ghost use Rattle.std.specs.Prelude.{◌≡◌, true, false, ◌^◌, ◌<◌, get_or};
@@ -7,15 +7,8 @@ ghost use Rattle.reliability.specs.Networks.{pieces};
 ghost use Rattle.search.specs.Searches.{nodes_in, ends_in, Incidence, Bounded, Ended};
 ghost use Rattle.pieces.specs.Pieces.{Closed, PieceOf};
 
-// Of a set of nodes that no link leaves, those in v's piece: from v on, each link is followed at most once.
-pub fn piece_of<'r>(
-    v: usize,
-    nodes: u64,
-    alive: u64,
-    at: &'r [u64; 32],
-    a: &'r [u8; 64],
-    b: &'r [u8; 64],
-) -> u64
+/// Of a set of nodes that no link leaves, those in v's piece: from v on, each link is followed at most once.
+pub fn piece_of(v: usize, nodes: u64, alive: u64, at: &[u64; 32], a: &[u8; 64], b: &[u8; 64]) -> u64
     requires { (v < 32) × (get_or (members nodes) v false ≡ true) × Incidence at.now alive a.now b.now × Bounded alive a.now b.now × Closed nodes alive a.now b.now }
     ensures { PieceOf result nodes (ends_in alive a.now b.now) v }
 {
@@ -37,8 +30,8 @@ pub fn piece_of<'r>(
     seen
 }
 
-// How many pieces the links in use leave the nodes in: one by one, each from its lowest node on.
-pub fn count<'r>(nodes: u64, alive: u64, at: &'r [u64; 32], a: &'r [u8; 64], b: &'r [u8; 64]) -> u32
+/// How many pieces the links in use leave the nodes in: one by one, each from its lowest node on.
+pub fn count(nodes: u64, alive: u64, at: &[u64; 32], a: &[u8; 64], b: &[u8; 64]) -> u32
     requires { (nodes < 2 ^ 32) × Incidence at.now alive a.now b.now × Ended nodes alive a.now b.now }
     ensures { result ≡ pieces (nodes_in nodes) (ends_in alive a.now b.now) }
 {

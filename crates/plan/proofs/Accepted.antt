@@ -7,7 +7,7 @@ use native.Mathlib.Omega.{arith}
 use lib.ListN.{length, length-map}
 use Rattle.reliability.specs.declared.Link.{Link}
 use Rattle.reliability.specs.Networks.{Valid, linked, link_at}
-use Rattle.plan.specs.declared.Verdict.TheVariants.{Accepted}
+use Rattle.std.specs.Prelude.{Ok}
 use Rattle.plan.specs.Plans.{size_n, size_m, first_end, second_end, verdict, link_in, plan_of}
 use Rattle.ratings.specs.Ratings.{AtMostS}
 use Rattle.search.specs.Searches.{from}
@@ -15,7 +15,7 @@ use Rattle.search.proofs.Sets.{from-size, from-node, ascending-from}
 use Rattle.plan.proofs.Links.{at_place, links-proper}
 
 module _ (rating : ℕ → ℕ) (b : List ℕ) where
-  pub plan-valid : AtMostS rating → verdict b ≡ Accepted → Valid (plan_of rating b)
+  pub plan-valid : AtMostS rating → verdict b ≡ Ok tt → Valid (plan_of rating b)
   plan-valid chances h = record { ascending = ascending-from 0 (size_n b); proper = links-proper rating chances b (from 0 (size_n b)) (λ v l. from-node 0 (size_n b) v (omega arith) (omega arith)) h }
 
   pub plan-links : length (plan_of rating b).links ≡ size_m b

@@ -13,7 +13,7 @@ use Rattle.reliability.specs.Networks.{Proper, ends}
 use Rattle.reliability.proofs.Validity.{value-linked}
 use Rattle.search.specs.Searches.{from}
 use Rattle.ratings.specs.Ratings.{AtMostS}
-use Rattle.plan.specs.declared.Verdict.TheVariants.{Accepted}
+use Rattle.std.specs.Prelude.{Ok}
 use Rattle.plan.specs.Plans.{size_n, size_m, first_end, second_end, file_value, verdict, link_in}
 use Rattle.plan.proofs.Values.{value-range, value-order}
 use Rattle.plan.proofs.Verdicts.{accepted-means}
@@ -46,7 +46,7 @@ module _ {A : Type 0} (f : ℕ → A) where
 
 module _ (rating : ℕ → ℕ) (chances : AtMostS rating) (b : List ℕ) where
   -- a link of an accepted plan joins nodes of the plan, and its values are chances in order
-  pub links-proper : (vs : List ℕ) → ((v : ℕ) → v < size_n b → Memᴰ v vs) → verdict b ≡ Accepted → (e : Link) → Memᴰ e (map (link_in rating b) (from 0 (size_m b))) → Proper vs e
+  pub links-proper : (vs : List ℕ) → ((v : ℕ) → v < size_n b → Memᴰ v vs) → verdict b ≡ Ok tt → (e : Link) → Memᴰ e (map (link_in rating b) (from 0 (size_m b))) → Proper vs e
   unfolding link_in
   links-proper vs all accepted = each_member (link_in rating b) (Proper vs) 0 (size_m b) (λ j l h.
       let w = ((accepted-means b).0 accepted).each j (omega arith) in

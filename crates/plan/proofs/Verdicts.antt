@@ -13,19 +13,18 @@ use borrow.Author.Tests.{le-leb, lt-leb, lt-ltb, le-ltb, eq-eqb, ne_eqb}
 use Rattle.reliability.proofs.Lists.{not-true-false}
 use Rattle.plan.specs.declared.Cause.{Cause}
 use Rattle.plan.specs.declared.Cause.TheVariants.{Short, Nodes, Links, Length, End, Value}
-use Rattle.plan.specs.declared.Verdict.{Verdict}
-use Rattle.plan.specs.declared.Verdict.TheVariants.{Accepted, Refused}
-use Rattle.plan.specs.Plans.{size_n, size_m, first_end, second_end, file_value, rated, is_rated, refused_if, also, link_verdict, links_verdict, verdict, WellFormedLink, WellFormed, number, returned}
+use Rattle.std.specs.Prelude.{Result, Ok, Err}
+use Rattle.plan.specs.Plans.{Verdict, size_n, size_m, first_end, second_end, file_value, rated, is_rated, refused_if, also, link_verdict, links_verdict, verdict, WellFormedLink, WellFormed, number, returned}
 
 -- ---- one link
 
 module _ (b : List ℕ) (i : ℕ) where
-  pub refused_end : (size_n b ≤ first_end b i) ⊎ (size_n b ≤ second_end b i) → link_verdict b i ≡ Refused (End i)
+  pub refused_end : (size_n b ≤ first_end b i) ⊎ (size_n b ≤ second_end b i) → link_verdict b i ≡ Err (End i)
   unfolding link_verdict
   refused_end (inl h) = simp (le-leb _ _ h)
   refused_end (inr h) = simp (le-leb _ _ h, or-true)
 
-  pub by_value : {t : Bool} → first_end b i < size_n b → second_end b i < size_n b → is_rated (rated (file_value b i)) ≡ t → link_verdict b i ≡ refused_if (not t) (Value i) Accepted
+  pub by_value : {t : Bool} → first_end b i < size_n b → second_end b i < size_n b → is_rated (rated (file_value b i)) ≡ t → link_verdict b i ≡ refused_if (not t) (Value i) (Ok tt)
   unfolding link_verdict
   by_value h k e = simp (lt-leb _ _ h, lt-leb _ _ k, e)
 
@@ -38,19 +37,19 @@ in_order b i m h e =
     let left : m - i ≡ suc (m - (i + 1)) = omega arith in
     ap (links_verdict b i) left ∙ rw (e, add-one)
 
-pub none_left : (b : List ℕ) (i m : ℕ) → m ≤ i → links_verdict b i (m - i) ≡ Accepted
+pub none_left : (b : List ℕ) (i m : ℕ) → m ≤ i → links_verdict b i (m - i) ≡ Ok tt
 unfolding links_verdict
 none_left b i m h = let left : m - i ≡ zero = omega arith in ap (links_verdict b i) left
 
 -- ---- the rows of the table, in order
 
 module _ (b : List ℕ) where
-  pub refused-short : length b < 4 → verdict b ≡ Refused Short
+  pub refused-short : length b < 4 → verdict b ≡ Err Short
   unfolding verdict
   refused-short h = simp (lt-ltb _ _ h)
 
   module _ (long : 4 ≤ length b) where
-    pub refused-nodes : (size_n b ≡ 0) ⊎ (32 < size_n b) → verdict b ≡ Refused Nodes
+    pub refused-nodes : (size_n b ≡ 0) ⊎ (32 < size_n b) → verdict b ≡ Err Nodes
     unfolding verdict
     refused-nodes (inl h) = simp (le-ltb _ _ long, eq-eqb _ _ h)
     refused-nodes (inr h) = simp (le-ltb _ _ long, lt-ltb _ _ h, or-true)
@@ -59,12 +58,12 @@ module _ (b : List ℕ) where
       nonzero : size_n b ≡ 0 → ⊥
       nonzero e = omega arith
 
-      pub refused-links : 64 < size_m b → verdict b ≡ Refused Links
+      pub refused-links : 64 < size_m b → verdict b ≡ Err Links
       unfolding verdict
       refused-links h = simp (le-ltb _ _ long, ne_eqb _ _ nonzero, le-ltb _ _ few, lt-ltb _ _ h)
 
       module _ (fewer : size_m b ≤ 64) where
-        pub refused-length : (length b ≡ 4 + 6 * size_m b → ⊥) → verdict b ≡ Refused Length
+        pub refused-length : (length b ≡ 4 + 6 * size_m b → ⊥) → verdict b ≡ Err Length
         unfolding verdict
         refused-length h = simp (le-ltb _ _ long, ne_eqb _ _ nonzero, le-ltb _ _ few, le-ltb _ _ fewer, ne_eqb _ _ h)
 
@@ -74,40 +73,44 @@ module _ (b : List ℕ) where
 
 -- ---- accepted plans
 
+-- no refusal is accepted
+pub not-refused : {E P : Type 0} {c : E} → ◌≡◌ {A = Result (Unit {0}) E} (Err c) (Ok tt) → P
+not-refused e = let z : ◌≡◌ {A = ℕ} 0 1 = cc in absurd (omega arith)
+
 -- what is not refused for want of it
-kept : {P : Type 0} {v : Verdict} {c : Cause} → Dec P → v ≡ Accepted → ((P → ⊥) → v ≡ Refused c) → P
+kept : {P : Type 0} {v : Verdict} {c : Cause} → Dec P → v ≡ Ok tt → ((P → ⊥) → v ≡ Err c) → P
 kept (yes p) e r = p
-kept (no n) e r = let q = r n in let z : ◌≡◌ {A = ℕ} 0 1 = cc in absurd (omega arith)
+kept (no n) e r = not-refused (sym (r n) ∙ e)
 
 -- both verdicts of an accepted pair are accepted
-both-accepted : (u v : Verdict) → also u v ≡ Accepted → (u ≡ Accepted) × (v ≡ Accepted)
-both-accepted Accepted v e = (refl, e)
-both-accepted (Refused c) v e = let z : ◌≡◌ {A = ℕ} 0 1 = cc in absurd (omega arith)
+both-accepted : (u v : Verdict) → also u v ≡ Ok tt → (u ≡ Ok tt) × (v ≡ Ok tt)
+both-accepted (Ok tt) v e = (refl, e)
+both-accepted (Err c) v e = not-refused e
 
 module _ (b : List ℕ) (i : ℕ) where
-  link-accepted : link_verdict b i ≡ Accepted → WellFormedLink b i
+  link-accepted : link_verdict b i ≡ Ok tt → WellFormedLink b i
   link-accepted e =
       let h = kept (dec_lt (first_end b i) (size_n b)) e (λ n. refused_end b i (inl (omega arith))) in
       let k = kept (dec_lt (second_end b i) (size_n b)) e (λ n. refused_end b i (inr (omega arith))) in
       record { first = h; second = k; valued = kept (Bool-discrete (is_rated (rated (file_value b i))) true) e (λ n. by_value b i h k (not-true-false n)) }
 
-  accepted-link : WellFormedLink b i → link_verdict b i ≡ Accepted
+  accepted-link : WellFormedLink b i → link_verdict b i ≡ Ok tt
   accepted-link f = by_value b i f.first f.second refl ∙ rw f.valued
 
-links-accepted : (b : List ℕ) (i k : ℕ) → links_verdict b i k ≡ Accepted → (j : ℕ) → i ≤ j → j < i + k → WellFormedLink b j
+links-accepted : (b : List ℕ) (i k : ℕ) → links_verdict b i k ≡ Ok tt → (j : ℕ) → i ≤ j → j < i + k → WellFormedLink b j
 unfolding links_verdict
 links-accepted b i zero e j l h = absurd (omega arith)
 links-accepted b i (suc k) e j l h =
     let p = both-accepted (link_verdict b i) (links_verdict b (suc i) k) e in
     by_cases (dec_lt i j) (λ m. links-accepted b (suc i) k p.1 j m (omega arith)) (λ n. subst (WellFormedLink b) (omega arith) (link-accepted b i p.0))
 
-accepted-links : (b : List ℕ) (i k : ℕ) → ((j : ℕ) → i ≤ j → j < i + k → WellFormedLink b j) → links_verdict b i k ≡ Accepted
+accepted-links : (b : List ℕ) (i k : ℕ) → ((j : ℕ) → i ≤ j → j < i + k → WellFormedLink b j) → links_verdict b i k ≡ Ok tt
 unfolding links_verdict
 accepted-links b i zero f = refl
 accepted-links b i (suc k) f = rw (accepted-link b i (f i (le_refl i) (omega arith))) (accepted-links b (suc i) k (λ j l h. f j (omega arith) (omega arith)))
 
 module _ (b : List ℕ) where
-  accepted : verdict b ≡ Accepted → WellFormed b
+  accepted : verdict b ≡ Ok tt → WellFormed b
   accepted e =
       let long = kept (dec_le 4 (length b)) e (λ n. refused-short b (omega arith)) in
       let some = kept (dec_lt 0 (size_n b)) e (λ n. refused-nodes b long (inl (omega arith))) in
@@ -123,7 +126,7 @@ module _ (b : List ℕ) where
       }
 
   -- a plan that meets no cause of refusal is accepted, and no other
-  pub accepted-means : verdict b ≡ Accepted ↔ WellFormed b
+  pub accepted-means : verdict b ≡ Ok tt ↔ WellFormed b
   accepted-means = (
     accepted,
     λ w. by-links b (omega arith) w.some_node w.nodes w.links w.whole ∙ accepted-links b 0 (size_m b) (λ j l h. w.each j (omega arith)),
@@ -141,6 +144,6 @@ number-range (End i) = omega arith
 number-range (Value i) = omega arith
 
 -- 0 is returned of an accepted plan, and of no other
-pub zero-means : (v : Verdict) → returned v ≡ 0 ↔ v ≡ Accepted
-zero-means Accepted = (λ e. refl, λ h. refl)
-zero-means (Refused c) = (λ e. absurd (omega (arith, number-range c)), λ h. ap returned h)
+pub zero-means : (v : Verdict) → returned v ≡ 0 ↔ v ≡ Ok tt
+zero-means (Ok tt) = (λ e. refl, λ h. refl)
+zero-means (Err c) = (λ e. absurd (omega (arith, number-range c)), λ h. ap returned h)

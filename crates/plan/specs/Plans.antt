@@ -1,5 +1,5 @@
 -- The plan file: what its bytes mean, and why one is refused.
-use Rattle.std.specs.Prelude.{ℕ, zero, suc, ◌+◌, ◌-◌, ◌*◌, ◌≤◌, ◌<◌, ◌≡◌, List, map, Bool, true, false, not, ◌&&◌, ◌||◌, eqb, leb, ltb, length}
+use Rattle.std.specs.Prelude.{ℕ, zero, suc, ◌+◌, ◌-◌, ◌*◌, ◌≤◌, ◌<◌, ◌≡◌, List, map, Bool, true, false, not, ◌&&◌, ◌||◌, eqb, leb, ltb, length, Result, Ok, Err}
 pub use Rattle.reader.specs.Layout.{size_n, size_m, first_end, second_end, file_value}
 use Rattle.rounding.specs.Rounding.{S}
 use Rattle.rounding.specs.declared.Direction.{Direction}
@@ -9,8 +9,6 @@ use Rattle.reliability.specs.Networks.{Network, linked}
 use Rattle.search.specs.Searches.{from}
 use Rattle.plan.specs.declared.Cause.{Cause}
 use Rattle.plan.specs.declared.Cause.TheVariants.{Short, Nodes, Links, Length, End, Value}
-use Rattle.plan.specs.declared.Verdict.{Verdict}
-use Rattle.plan.specs.declared.Verdict.TheVariants.{Accepted, Refused}
 use Rattle.plan.specs.declared.Rated.{Rated}
 use Rattle.plan.specs.declared.Rated.TheVariants.{Units, OfLength, Unrated}
 
@@ -38,9 +36,13 @@ value_of rating d Unrated = 0
 
 -- ---- the causes of refusal, in the order in which they are tested
 
+-- accepted, or refused for a cause
+abbrev pub Verdict : Type 0
+Verdict = Result (Unit {0}) Cause
+
 -- refused where the cause is met, else as the later causes say
 abbrev pub refused_if : Bool → Cause → Verdict → Verdict
-refused_if true c v = Refused c
+refused_if true c v = Err c
 refused_if false c v = v
 
 -- link i: an end n or above; a value that stands for none
@@ -48,16 +50,16 @@ unfoldable pub link_verdict : List ℕ → ℕ → Verdict
 link_verdict b i =
     refused_if (leb (size_n b) (first_end b i) || leb (size_n b) (second_end b i)) (End i)
     (refused_if (not (is_rated (rated (file_value b i)))) (Value i)
-    Accepted)
+    (Ok tt))
 
--- the first verdict that is a refusal
-abbrev pub also : Verdict → Verdict → Verdict
-also Accepted v = v
-also (Refused c) v = Refused c
+-- the first of two verdicts that is a refusal
+abbrev pub also : {E : Type 0} → Result (Unit {0}) E → Result (Unit {0}) E → Result (Unit {0}) E
+also (Ok tt) v = v
+also (Err c) v = Err c
 
 -- the links from i on, k of them, in order
 unfoldable pub links_verdict : List ℕ → ℕ → ℕ → Verdict
-links_verdict b i zero = Accepted
+links_verdict b i zero = Ok tt
 links_verdict b i (suc k) = also (link_verdict b i) (links_verdict b (suc i) k)
 
 -- causes 1 to 6: under 4 bytes; n is 0 or above 32; m above 64; length not 4 + 6 * m; then the links
@@ -105,8 +107,8 @@ named_link (Value i) = i
 
 -- the column Returned
 abbrev pub returned : Verdict → ℕ
-returned Accepted = 0
-returned (Refused c) = number c + 256 * named_link c
+returned (Ok tt) = 0
+returned (Err c) = number c + 256 * named_link c
 
 -- ---- the network of an accepted plan, under a rating by length
 

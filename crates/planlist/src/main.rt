@@ -1,4 +1,4 @@
-// Prints the listing of the plan on standard input.
+//! Prints the listing of the plan on standard input.
 #![tactic(auto)]
 
 fn main() {

@@ -1,4 +1,4 @@
-// The table T: the chance in units of a cable of k hundred metres; and the joints at both its ends.
+//! The table T: the chance in units of a cable of k hundred metres; and the joints at both its ends.
 #![tactic(auto)]
 
 ghost use Rattle.std.specs.Prelude.{◌≡◌, ℕ, ◌≤◌, ◌<◌};
@@ -74,6 +74,7 @@ const RATINGS: [u32; 512] = [
     859656006, 859398109, 859140289, 858882546, 858624881, 858367293, 858109782, 857852349,
 ];
 
+/// T[k], which falls as k grows.
 pub fn rating(k: usize) -> u32
     requires { k < 512 }
     ensures value { result ≡ T k }
@@ -82,10 +83,10 @@ pub fn rating(k: usize) -> u32
     RATINGS[k]
 }
 
-// J.
+/// J, the chance that a joint is sound.
 const JOINT: u32 = 999_950_000;
 
-// t * J * J / S², rounded after each joint.
+/// t * J * J / S², rounded after each joint.
 pub fn with_joints(d: Direction, t: u32) -> u32
     requires { t ≤ S }
     ensures { result ≡ with_joints d t }

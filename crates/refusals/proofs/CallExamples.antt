@@ -5,8 +5,7 @@ use mathlib.Core.List.{List, [], ◌∷◌, map}
 use lib.ListN.{replicate}
 use Rattle.tables.specs.Tables.{value_in, sized, never_rises, well_rated}
 use Rattle.plan.specs.Plans.{links_verdict, verdict}
-use Rattle.causes.specs.declared.CallVerdict.{CallVerdict}
-use Rattle.causes.specs.Causes.{call_returned}
+use Rattle.causes.specs.Causes.{CallVerdict, call_returned}
 use Rattle.refusals.specs.Refusals.{asked, work_room, tabled, placed, named, figure_verdict, chosen_verdict, importance_verdict, difference_verdict, sitting_verdict}
 
 -- a plan of one node

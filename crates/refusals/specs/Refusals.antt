@@ -1,48 +1,41 @@
 -- Which cause of refusal a call meets first.
-use Rattle.std.specs.Prelude.{ℕ, ◌^◌, List, cond, ◌||◌, eqb, leb, ltb}
+use Rattle.std.specs.Prelude.{ℕ, ◌^◌, List, cond, ◌||◌, eqb, leb, ltb, Ok, Err}
 use Rattle.tables.specs.Tables.{sized, well_rated}
-use Rattle.plan.specs.declared.Verdict.{Verdict}
-use Rattle.plan.specs.declared.Verdict.TheVariants.{Accepted as PlanAccepted, Refused as PlanRefused}
-use Rattle.plan.specs.Plans.{size_n, size_m, verdict}
+use Rattle.plan.specs.Plans.{Verdict, size_n, size_m, verdict}
+pub use Rattle.plan.specs.Plans.{also}
 use Rattle.causes.specs.declared.CallCause.TheVariants.{Limit, Buffer, TableSize, TableValues, Place, Choice, Plan, SecondPlan}
-use Rattle.causes.specs.declared.CallVerdict.{CallVerdict}
-use Rattle.causes.specs.declared.CallVerdict.TheVariants.{Accepted, Refused}
+use Rattle.causes.specs.Causes.{CallVerdict}
 
 -- ---- in the order in which the causes are tested
 
 -- limit above 1,000,000, then answer buffer under 16 bytes
 unfoldable pub asked : ℕ → ℕ → CallVerdict
-asked limit room = cond (ltb 1000000 limit) (Refused Limit) (cond (ltb room 16) (Refused Buffer) Accepted)
+asked limit room = cond (ltb 1000000 limit) (Err Limit) (cond (ltb room 16) (Err Buffer) (Ok tt))
 
 -- work buffer under 776 bytes
 unfoldable pub work_room : ℕ → CallVerdict
-work_room work = cond (ltb work 776) (Refused Buffer) Accepted
+work_room work = cond (ltb work 776) (Err Buffer) (Ok tt)
 
 -- a table of neither 0 nor 2,048 bytes, then first value not S, or a value above the one before
 unfoldable pub tabled : List ℕ → CallVerdict
-tabled table = cond (sized table) (cond (well_rated table) Accepted (Refused TableValues)) (Refused TableSize)
+tabled table = cond (sized table) (cond (well_rated table) (Ok tt) (Err TableValues)) (Err TableSize)
 
 -- the plan's causes, of plan A and of plan B
 abbrev pub planned : Verdict → CallVerdict
-planned PlanAccepted = Accepted
-planned (PlanRefused c) = Refused (Plan c)
+planned (Ok tt) = Ok tt
+planned (Err c) = Err (Plan c)
 
 abbrev pub planned_second : Verdict → CallVerdict
-planned_second PlanAccepted = Accepted
-planned_second (PlanRefused c) = Refused (SecondPlan c)
+planned_second (Ok tt) = Ok tt
+planned_second (Err c) = Err (SecondPlan c)
 
 -- link place m or above
 unfoldable pub placed : List ℕ → ℕ → CallVerdict
-placed plan place = cond (leb (size_m plan) place) (Refused Place) Accepted
+placed plan place = cond (leb (size_m plan) place) (Err Place) (Ok tt)
 
 -- a choice that names no node, or node n or above
 unfoldable pub named : List ℕ → ℕ → CallVerdict
-named plan choice = cond (eqb choice 0 || leb (2 ^ size_n plan) choice) (Refused Choice) Accepted
-
--- the first verdict that is a refusal
-abbrev pub also : CallVerdict → CallVerdict → CallVerdict
-also Accepted v = v
-also (Refused c) v = Refused c
+named plan choice = cond (eqb choice 0 || leb (2 ^ size_n plan) choice) (Err Choice) (Ok tt)
 
 -- the table's causes, then the plan's
 abbrev pub table_and_plan : List ℕ → List ℕ → CallVerdict

@@ -1,14 +1,14 @@
 -- Each operation's laws: rounded from its exact quotient, monotone in each argument, at most S; of values in order, in order.
 use Prim.Native.Nat.{ℕ, ◌+◌, ◌-◌, ◌*◌, ◌/◌, ◌≤◌, ◌<◌, zero-le}
 use mathlib.Core.Path.{◌≡◌, sym, ap, ◌∙◌, subst}
-use native.Mathlib.Nat.{div-le_of_le-mul, add-mul, mul_comm, mul_assoc, mul-le-mul, mul-le-mul_left, mul-le-mul_right, le_trans, le_of_eq, add-sub_of_le, add-le-add}
+use native.Mathlib.Nat.{sub-le, div-le_of_le-mul, add-mul, mul_comm, mul_assoc, mul-le-mul, mul-le-mul_left, mul-le-mul_right, le_trans, le_of_eq, add-sub_of_le, add-le-add}
 use native.Mathlib.Omega.{arith}
 use native.Mathlib.Decide.{dec_lt}
 use lib.Dec.{lit<}
 use Rattle.rounding.specs.declared.Direction.{Direction}
 use Rattle.rounding.specs.declared.Direction.TheVariants.{Down, Up}
 use Rattle.rounding.specs.Rounding.{S, quotient, product, parallel, either, series, factor, split}
-use Rattle.rounding.proofs.Laws.{Rounds, rounds, monotone, over_zero, of-multiple, down-up, complement, rearranged, ring}
+use Rattle.rounding.proofs.Laws.{Rounds, rounds, monotone, over_zero, of-multiple, down-up, complement, rearranged, up-exact, up-carry, ring}
 
 unit : 0 < S
 unit = lit< tt
@@ -96,6 +96,10 @@ parallel-is-factor d p q hp hq =
     let whole = either-complement p q hp hq in
     complement d S ((S - p) * (S - q)) unit (omega arith) ∙ ap (λ k. quotient d k S) (omega arith)
 
+-- what parallel subtracts is at most S
+pub broken_range : (d : Direction) (p q : ℕ) → quotient d ((S - p) * (S - q)) S ≤ S
+broken_range d p q = range d ((S - p) * (S - q)) (mul-le-mul (sub-le S p) (sub-le S q))
+
 pub parallel-rounds : (d : Direction) (p q : ℕ) → p ≤ S → q ≤ S → Rounds d (parallel d p q) (either p q) S
 parallel-rounds d p q hp hq = rw (parallel-is-factor d p q hp hq) (factor-rounds d p q)
 
@@ -178,3 +182,9 @@ pub split-value : (d : Direction) {p p' x y : ℕ} → p ≤ p' → p' ≤ S →
 unfolding split
 split-value d {p} {p'} {x} {y} h hp k =
     larger d (omega (arith, rearranged h k, shares p y (le_trans h hp), shares p' y hp))
+
+-- what the two links of a series need
+pub ruleset in_series = (both-within, either-range, series-zero)
+
+-- a quotient rounded up
+pub ruleset up = (up-exact, up-carry, division-range)

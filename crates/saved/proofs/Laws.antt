@@ -14,7 +14,7 @@ use Rattle.rounding.specs.Rounding.{S}
 use Rattle.rounding.specs.declared.Direction.{Direction}
 use Rattle.rounding.specs.declared.Direction.TheVariants.{Down, Up}
 use Rattle.words.specs.Words.{word32, le2, le4}
-use Rattle.words.proofs.Laws.{whole32, behind32}
+use Rattle.words.specs.ReadBack.{whole32, behind32}
 use Rattle.reliability.specs.declared.Figure.{Figure}
 use Rattle.answers.specs.Answers.{answer_bytes}
 use Rattle.sittings.specs.Sittings.{Open, running, known, begun, complete, nothing, most}
@@ -277,7 +277,7 @@ module _ (os : List Open) (n : ℕ) where
       begun-formed h =
           let allowed : pairs_allowed written 0 (count_in written) ≡ true = ap (pairs_allowed written 0) begun-count ∙ pairs-again written os 0 holds order range in
           let size : length written ≡ 8 + 12 * count_in written = omega (arith, begun-size os n, begun-count) in
-          let well : begun_well written ≡ true = sym (begun-pairs written (state_in written) (count_in written) refl refl begun-state (omega (arith, begun-count)) size) ∙ allowed in
+          let well : begun_well written ≡ true = sym (begun-pairs written begun-state (omega (arith, begun-count)) size) ∙ allowed in
           sym (formed-begun written (omega (arith, begun-size os n)) (omega (arith, begun-taken (omega arith))) well)
 
 module _ (f : Figure) where

@@ -9,12 +9,12 @@ use lib.Dec.{eqb, leb}
 use lib.ListN.{length, get_or, set, length-set}
 use lib.Seq.{get_or-set_same, get_or-set_other}
 use borrow.Author.Count.{below_more}
-use borrow.Author.Tests.{le-leb, lt-leb, eq-eqb, ne_eqb, eqb-true}
+use borrow.Author.Tests.{le-leb, eq-eqb, eqb-true}
 use Rattle.rounding.specs.Rounding.{S}
 use Rattle.words.specs.Words.{word32}
 use Rattle.sittings.specs.Sittings.{most}
 use Rattle.sittings.specs.Entries.{entered, opens_in}
-use Rattle.saved.specs.Format.{count_in, state_in, taken_in, place_in, pair_low, pair_high, opens_from, pair_allowed, pairs_allowed, begun_well, complete_well, well_formed}
+use Rattle.saved.specs.Format.{count_in, state_in, taken_in, place_in, pair_low, pair_high, opens_from, pair_allowed, pairs_allowed, begun_well, well_formed}
 
 -- ---- a pair
 
@@ -34,14 +34,6 @@ or-false false = refl
 pub allowed-ordered : (low high : ℕ) → low ≤ high → leb high S ≡ pair_allowed low high
 unfolding pair_allowed
 allowed-ordered low high h = rw (le-leb low high h, ordered low high h) (sym (or-false (leb high S)))
-
-pub allowed-mark : (low high : ℕ) → high < low → low ≡ 1 → eqb high 0 ≡ pair_allowed low high
-unfolding pair_allowed
-allowed-mark low high h e = rw (lt-leb low high h, eq-eqb low 1 e) refl
-
-pub allowed-never : (low high : ℕ) → high < low → (low ≡ 1 → ⊥) → eqb low 1 ≡ pair_allowed low high
-unfolding pair_allowed
-allowed-never low high h e = rw (lt-leb low high h, ne_eqb low 1 e) refl
 
 -- ---- pairs
 
@@ -66,51 +58,13 @@ pairs-passed b i k e = ap (pairs_allowed b i) e
 
 -- ---- the whole
 
-module _ (b : List ℕ) (s c : ℕ) (state : s ≡ state_in b) (count : c ≡ count_in b) where
-  pub begun-other : (s ≡ 0 → ⊥) → false ≡ begun_well b
-  unfolding begun_well
-  begun-other h = rw (ne_eqb (state_in b) 0 (λ e. h (state ∙ e))) refl
+pub begun-pairs : (b : List ℕ) → state_in b ≡ 0 → count_in b ≤ 64 → length b ≡ 8 + 12 * count_in b → pairs_allowed b 0 (count_in b) ≡ begun_well b
+unfolding begun_well
+begun-pairs b state few size = rw (eq-eqb (state_in b) 0 state, le-leb (count_in b) 64 few, eq-eqb (length b) (8 + 12 * count_in b) size) refl
 
-  pub begun-many : s ≡ 0 → 64 < c → false ≡ begun_well b
-  unfolding begun_well
-  begun-many z h = rw (eq-eqb (state_in b) 0 (sym state ∙ z), lt-leb (count_in b) 64 (omega arith)) refl
-
-  pub begun-long : s ≡ 0 → c ≤ 64 → (length b ≡ 8 + 12 * c → ⊥) → false ≡ begun_well b
-  unfolding begun_well
-  begun-long z h l = rw (eq-eqb (state_in b) 0 (sym state ∙ z), le-leb (count_in b) 64 (omega arith), ne_eqb (length b) (8 + 12 * count_in b) (λ e. l (omega arith))) refl
-
-  pub begun-pairs : s ≡ 0 → c ≤ 64 → length b ≡ 8 + 12 * c → pairs_allowed b 0 (count_in b) ≡ begun_well b
-  unfolding begun_well
-  begun-pairs z h l = rw (eq-eqb (state_in b) 0 (sym state ∙ z), le-leb (count_in b) 64 (omega arith), eq-eqb (length b) (8 + 12 * count_in b) (omega arith)) refl
-
-  pub complete-other : (s ≡ 1 → ⊥) → false ≡ complete_well b
-  unfolding complete_well
-  complete-other h = rw (ne_eqb (state_in b) 1 (λ e. h (state ∙ e))) refl
-
-  pub complete-open : s ≡ 1 → (c ≡ 0 → ⊥) → false ≡ complete_well b
-  unfolding complete_well
-  complete-open z h = rw (eq-eqb (state_in b) 1 (sym state ∙ z), ne_eqb (count_in b) 0 (λ e. h (count ∙ e))) refl
-
-  pub complete-long : s ≡ 1 → c ≡ 0 → eqb (length b) 24 ≡ complete_well b
-  unfolding complete_well
-  complete-long z h = rw (eq-eqb (state_in b) 1 (sym state ∙ z), eq-eqb (count_in b) 0 (sym count ∙ h)) refl
-
-pub formed-short : (b : List ℕ) → length b < 8 → false ≡ well_formed b
+pub formed-begun : (b : List ℕ) → 8 ≤ length b → taken_in b ≤ most → begun_well b ≡ true → true ≡ well_formed b
 unfolding well_formed
-formed-short b h = rw (lt-leb 8 (length b) h) refl
-
-module _ (b : List ℕ) (size : 8 ≤ length b) where
-  pub formed-past : most < taken_in b → false ≡ well_formed b
-  unfolding well_formed
-  formed-past h = rw (le-leb 8 (length b) size, lt-leb (taken_in b) most h) refl
-
-  pub formed-begun : taken_in b ≤ most → begun_well b ≡ true → true ≡ well_formed b
-  unfolding well_formed
-  formed-begun h e = rw (le-leb 8 (length b) size, le-leb (taken_in b) most h, e) refl
-
-  pub formed-complete : taken_in b ≤ most → begun_well b ≡ false → complete_well b ≡ well_formed b
-  unfolding well_formed
-  formed-complete h e = rw (le-leb 8 (length b) size, le-leb (taken_in b) most h, e) refl
+formed-begun b size h e = rw (le-leb 8 (length b) size, le-leb (taken_in b) most h, e) refl
 
 -- ---- open splits into a row
 

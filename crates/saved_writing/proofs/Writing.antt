@@ -1,12 +1,12 @@
 -- Bytes written one part after the other; those behind them stay.
-use Prim.Native.Nat.{ℕ, zero, suc, ◌+◌, ◌*◌, ◌≤◌, ◌<◌}
+use Prim.Native.Nat.{ℕ, zero, suc, ◌+◌, ◌*◌, ◌≤◌}
 use mathlib.Core.Path.{◌≡◌, refl, sym, ap, ◌∙◌}
 use mathlib.Core.List.{List, [], ◌∷◌, ◌++◌, append_assoc, append-nil}
 use native.Mathlib.Nat.{zero-add}
 use native.Mathlib.Numerals.{add-one}
 use native.Mathlib.Omega.{arith}
-use lib.ListN.{length, take, drop, get_or, set, length-append, length-drop, take-append-drop}
-use lib.Seq.{take_at, take-suc, drop-cons, drop-drop, drop-append-add, set_at, append_snoc, get_or-drop, length-take-le}
+use lib.ListN.{length, take, drop, get_or, length-append, take-append-drop}
+use lib.Seq.{take_at, drop-drop, drop-append-add, length-take-le}
 use Rattle.words.specs.Words.{le2, le4, with16, with32}
 use Rattle.saved.proofs.Laws.{words_size}
 use Rattle.saved.specs.Format.{words, row_places, row_pairs, begun_bytes, over}
@@ -19,19 +19,6 @@ filled p q b w k m e h =
     let behind : drop (k + m) w ≡ drop (k + m) b = ap (drop (k + m)) h ∙ ap (λ n. drop (n + m) (p ++ drop k b)) (sym e) ∙ drop-append-add p (drop k b) m ∙ drop-drop m k b in
     let front : take k w ≡ p = ap (take k) h ∙ take_at p (drop k b) k e in
     rw (behind, front) refl
-
--- one byte more copied
-pub copied_more : (from to₀ to : List ℕ) (at i : ℕ) → at + i < length from → i < length to₀ → to ≡ take i (drop at from) ++ drop i to₀
-    → set to i (get_or from (at + i) 0) ≡ take (i + 1) (drop at from) ++ drop (i + 1) to₀
-copied_more from to₀ to at i room size e =
-    let rest : i < length (drop at from) = omega (arith, length-drop at from) in
-    let p = take i (drop at from) in
-    let a = get_or from (at + i) 0 in
-    let one : take (i + 1) (drop at from) ≡ p ++ (a ∷ []) = ap (λ n. take n (drop at from)) (add-one i) ∙ take-suc (drop at from) i 0 rest ∙ ap (λ x. p ++ (x ∷ [])) (get_or-drop at from i 0) in
-    ap (λ l. set l i a) (e ∙ ap (λ l. p ++ l) (drop-cons to₀ i 0 size))
-    ∙ set_at p (get_or to₀ i 0) (drop (suc i) to₀) a i (length-take-le i (drop at from) (omega arith))
-    ∙ sym (append_snoc p a (drop (suc i) to₀))
-    ∙ rw (one, add-one) refl
 
 -- ---- numbers of four bytes
 

@@ -14,7 +14,7 @@ use Rattle.bits.specs.Members.{digits, members, first_of, how_many}
 use Rattle.bits.proofs.Digits.{length_digits}
 use Rattle.reliability.proofs.Lists.{by_eqb, filter-here, filter-past, mem-filter}
 use Rattle.reliability.proofs.LargestSum.{attained}
-use Rattle.search.specs.declared.Found.TheVariants.{At}
+use Rattle.std.specs.Prelude.{Some}
 use Rattle.search.specs.Searches.{from, places_in, filter, found, count_at, counts_of, largest, largest_in}
 use Rattle.search.proofs.Sets.{has, has-below, has-without}
 use Rattle.search.proofs.Marks.{indices, Lowest, lowest-of, lowest-below, lowest-first, none-listed}
@@ -110,10 +110,9 @@ module _ (sum : ℕ → ℕ) where
             opened false (lt-leb (largest sum (k ∷ ks)) top (omega arith)) false (lt-leb (largest sum ks) (sum k) (omega arith))
 
   -- nothing is left
-  pub so-far-ends : (best top t : ℕ) → t ≡ 0 → so_far best top (places_in t) ≡ best
+  pub so-far-ends : (best top : ℕ) (ks : List ℕ) → ks ≡ [] → so_far best top ks ≡ best
   unfolding largest
-  so-far-ends best top t e =
-      ap (λ (s : ℕ). so_far best top (places_in s)) e ∙ ap (so_far best top) none-listed ∙ ap (λ (b : Bool). cond b best (largest_in sum [])) (le-leb 0 top (omega arith))
+  so-far-ends best top ks e = ap (so_far best top) e ∙ ap (λ (b : Bool). cond b best (largest_in sum [])) (le-leb 0 top (omega arith))
 
   -- the first is the best at the start
   pub so-far-starts : (t : ℕ) → t < 2 ^ 64 → largest_in sum (places_in t) ≡ so_far (first_of (members t)) 0 (places_in t)
@@ -131,12 +130,12 @@ module _ (sum : ℕ → ℕ) where
           by false e = refl
 
   -- a list that is not empty has one
-  pub largest-found : (ks : List ℕ) → 0 < length ks → found (filter (λ j. eqb (sum j) (largest sum ks)) ks) ≡ At (largest_in sum ks)
+  pub largest-found : (ks : List ℕ) → 0 < length ks → found (filter (λ j. eqb (sum j) (largest sum ks)) ks) ≡ Some (largest_in sum ks)
   largest-found [] h = absurd (omega arith)
   largest-found (k ∷ ks) h =
       let (j, m, e) = attained sum k ks in
       go (filter (λ i. eqb (sum i) (largest sum (k ∷ ks))) (k ∷ ks)) (mem-filter (λ i. eqb (sum i) (largest sum (k ∷ ks))) (k ∷ ks) m (eq-eqb (sum j) (largest sum (k ∷ ks)) e))
     where
-      go : (l : List ℕ) {j : ℕ} → Memᴰ j l → found l ≡ At (get_or l 0 64)
+      go : (l : List ℕ) {j : ℕ} → Memᴰ j l → found l ≡ Some (get_or l 0 64)
       go [] m = absurd (Memᴰ.not-nil m)
       go (i ∷ l) m = refl

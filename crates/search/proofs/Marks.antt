@@ -1,19 +1,18 @@
 -- The places of a set as a list, and the places at which a test holds.
 use Prim.Native.Nat.{ℕ, zero, suc, ◌^◌, ◌≤◌, ◌<◌}
 use mathlib.Core.Path.{◌≡◌, refl, sym, ap, ◌∙◌, subst}
-use mathlib.Core.List.{List, [], ◌∷◌, map}
+use mathlib.Core.List.{List, [], ◌∷◌, map, Memᴰ}
 use mathlib.Core.Bool.{Bool, true, false, not, ◌&&◌, true≢false}
 use native.Mathlib.Omega.{arith}
 use lib.Dec.{eqb, leb}
-use lib.ListN.{length, get_or, set, length-map}
+use lib.ListN.{length, get_or, set, length-map, length-set}
 use borrow.Author.Tests.{eq-eqb, ne_eqb, le-leb, lt-leb}
 use Rattle.bits.specs.Members.{members, first_of, how_many}
 use Rattle.bits.proofs.Digits.{length_digits, digits-empty}
 use Rattle.bits.proofs.Places.{first-set, count-cleared}
 use Rattle.reliability.proofs.Lists.{by_eqb, filter-here, filter-past}
-use Rattle.search.specs.declared.Found.TheVariants.{At, Nothing}
-use Rattle.search.specs.Searches.{pick, from, places_in, Inside, filter, found}
-use Rattle.search.proofs.Sets.{has, has-place}
+use Rattle.search.specs.Searches.{pick, from, places_in, Inside, filter}
+use Rattle.search.proofs.Sets.{mem-has, has, has-place}
 
 -- ---- the places of a set, ascending
 
@@ -130,21 +129,9 @@ module _ (t k : ℕ) (l : Lowest t k) where
     pub rest-within : (s : ℕ) → Inside t s → Inside r s
     rest-within s h j e = h j (cleared-in (members t) (first_of (members t)) j (subst (λ (bs : List Bool). get_or bs j false ≡ true) rest e))
 
-  -- a search for the first place at which a test holds
-  module _ (p : ℕ → Bool) where
-    pub search-hits : p k ≡ true → found (filter p (places_in t)) ≡ At k
-    search-hits h = ap (λ (ks : List ℕ). found (filter p ks)) lowest-first ∙ ap found (filter-here p k (indices (set (members t) k false)) h)
-
-    pub search-misses : p k ≡ false → (r : ℕ) → members r ≡ set (members t) (first_of (members t)) false → filter p (places_in t) ≡ filter p (places_in r)
-    search-misses h r rest = ap (filter p) (lowest-rest r rest) ∙ filter-past p k (places_in r) h
-
 -- the second place of a set is the lowest of the rest
 pub second-place : (t k : ℕ) → Lowest t k → (r : ℕ) → members r ≡ set (members t) (first_of (members t)) false → (j : ℕ) → Lowest r j → get_or (places_in t) 1 0 ≡ j
 second-place t k l r rest j m = ap (λ (ks : List ℕ). get_or ks 1 0) (lowest-rest t k l r rest) ∙ ap (λ (ks : List ℕ). get_or ks 0 0) (lowest-first r j m)
-
-pub search-ends : (p : ℕ → Bool) (t : ℕ) → t ≡ 0 → found (filter p (places_in t)) ≡ Nothing
-unfolding filter
-search-ends p t e = ap (λ (s : ℕ). found (filter p (places_in s))) e ∙ ap (λ (l : List ℕ). found (filter p l)) none-listed
 
 -- ---- the count of a set, by its rest
 
@@ -181,3 +168,60 @@ few-rest s r some small h rest =
 pub counted-some : (s : ℕ) → 0 < how_many (members s) → 0 < s
 counted-some zero h = absurd (omega (arith, (digits-empty 64 0 (omega arith)).1 refl))
 counted-some (suc s) h = omega arith
+
+-- ---- the places as they come, one by one: k, and then those of r
+
+module _ (t k : ℕ) (ks : List ℕ) (next : places_in t ≡ k ∷ ks) where
+  pub next-in : has t k ≡ true
+  next-in = mem-has t k (subst (Memᴰ k) (sym next) (Memᴰ.head refl))
+
+  pub next-below : k < 64
+  next-below = has-place t k next-in
+
+-- so k is the lowest place of t, and r the rest of it
+suc-map : (k l : List ℕ) → map suc k ≡ map suc l → k ≡ l
+suc-map [] [] e = refl
+suc-map [] (y ∷ l) e = cc
+suc-map (x ∷ k) [] e = cc
+suc-map (x ∷ k) (y ∷ l) e =
+    let head : x ≡ y = cc in
+    let tail : map suc k ≡ map suc l = cc in
+    ap (λ (i : ℕ). i ∷ k) head ∙ ap (λ (m : List ℕ). y ∷ m) (suc-map k l tail)
+
+no-zero : (k l : List ℕ) → zero ∷ k ≡ map suc l → ⊥
+no-zero k [] e = cc
+no-zero k (x ∷ l) e = let z : zero ≡ suc x = cc in omega arith
+
+same-set : (bs cs : List Bool) → length bs ≡ length cs → indices bs ≡ indices cs → bs ≡ cs
+unfolding indices
+same-set [] [] l e = refl
+same-set [] (c ∷ cs) l e = absurd (omega arith)
+same-set (b ∷ bs) [] l e = absurd (omega arith)
+same-set (true ∷ bs) (true ∷ cs) l e =
+    let tail : map suc (indices bs) ≡ map suc (indices cs) = cc in ap (λ (us : List Bool). true ∷ us) (same-set bs cs (omega arith) (suc-map (indices bs) (indices cs) tail))
+same-set (true ∷ bs) (false ∷ cs) l e = absurd (no-zero (map suc (indices bs)) (indices cs) e)
+same-set (false ∷ bs) (true ∷ cs) l e = absurd (no-zero (map suc (indices cs)) (indices bs) (sym e))
+same-set (false ∷ bs) (false ∷ cs) l e = ap (λ (us : List Bool). false ∷ us) (same-set bs cs (omega arith) (suc-map (indices bs) (indices cs) e))
+
+pub taken : (t k r : ℕ) → places_in t ≡ k ∷ places_in r → Lowest t k × (members r ≡ set (members t) (first_of (members t)) false)
+taken t k r e =
+    let some : 0 < how_many (members t) = omega (arith, length-places t, ap length e) in
+    let f = first_of (members t) in
+    let here : indices (members t) ≡ f ∷ indices (set (members t) f false) = indices-first (members t) some in
+    let both : k ∷ places_in r ≡ f ∷ indices (set (members t) f false) = sym e ∙ places-listed t ∙ here in
+    let first : k ≡ f = cc in
+    let rest : places_in r ≡ indices (set (members t) f false) = cc in
+    let long : length (members r) ≡ length (set (members t) f false) = omega (arith, length_digits 64 r, length_digits 64 t, length-set (members t) f false) in
+    (record { some = some; first = first }, same-set (members r) (set (members t) f false) long (sym (places-listed r) ∙ rest))
+
+pub none-taken : (t : ℕ) → places_in t ≡ [] → how_many (members t) ≡ 0
+none-taken t e = omega (arith, length-places t, ap length e)
+
+no-place : (bs : List Bool) → how_many bs ≡ 0 → (v : ℕ) → get_or bs v false ≡ false
+no-place [] e v = refl
+no-place (true ∷ bs) e v = absurd (omega arith)
+no-place (false ∷ bs) e zero = refl
+no-place (false ∷ bs) e (suc v) = no-place bs e v
+
+pub none-in : (t : ℕ) → places_in t ≡ [] → (v : ℕ) → has t v ≡ false
+none-in t e = no-place (members t) (none-taken t e)

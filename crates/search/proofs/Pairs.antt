@@ -1,12 +1,12 @@
 -- The search for a pair, by places.
 use Prim.Native.Nat.{ℕ, ◌<◌}
 use mathlib.Core.Path.{◌≡◌, refl, sym, ap, ap₂, ◌∙◌}
-use mathlib.Core.List.{List, ◌∷◌}
+use mathlib.Core.List.{List, [], ◌∷◌}
 use mathlib.Core.Bool.{Bool, true, false, ◌&&◌, and-true, and-false}
 use lib.ListN.{get_or, set}
 use Rattle.bits.specs.Members.{members, first_of, both}
 use Rattle.bits.proofs.Digits.{length_digits}
-use Rattle.search.specs.declared.Pair.TheVariants.{Both, Neither}
+use Rattle.std.specs.Prelude.{None, Some}
 use Rattle.search.specs.Searches.{places_in, Inside, touching, Incidence, filter, beside, pair_in}
 use Rattle.search.proofs.Sets.{has, has-zip, at-node}
 use Rattle.search.proofs.Marks.{places-listed, filter-indices, none-listed, Lowest, lowest-first, lowest-rest}
@@ -46,7 +46,7 @@ module _ (at as₁ bs : List ℕ) (alive t i r m q : ℕ) (turn : Turn at as₁ 
   opened : pair_in (beside as₁ bs) (places_in t) ≡ pair_in (beside as₁ bs) (i ∷ places_in r)
   opened = ap (pair_in (beside as₁ bs)) (lowest-rest t i turn.lowest r turn.rest)
 
-  pub pair-hits : (j : ℕ) → Lowest q j → pair_in (beside as₁ bs) (places_in t) ≡ Both i j
+  pub pair-hits : (j : ℕ) → Lowest q j → pair_in (beside as₁ bs) (places_in t) ≡ Some (i, j)
   unfolding pair_in
   pair-hits j l = opened ∙ rw (listed ∙ lowest-first q j l, pair_in)
 
@@ -54,6 +54,6 @@ module _ (at as₁ bs : List ℕ) (alive t i r m q : ℕ) (turn : Turn at as₁ 
   unfolding pair_in
   pair-misses e = opened ∙ rw (listed ∙ ap places_in e ∙ none-listed, pair_in)
 
-pub pair_ends : (p : ℕ → ℕ → Bool) (t : ℕ) → t ≡ 0 → pair_in p (places_in t) ≡ Neither
+pub pair_ends : (p : ℕ → ℕ → Bool) (t : ℕ) → places_in t ≡ [] → pair_in p (places_in t) ≡ None
 unfolding pair_in
-pair_ends p t e = ap (λ (s : ℕ). pair_in p (places_in s)) e ∙ ap (pair_in p) none-listed
+pair_ends p t e = ap (pair_in p) e

@@ -1,13 +1,9 @@
 -- Sets of places as lists, the links at their places, and what the searches find.
-use Rattle.std.specs.Prelude.{ℕ, zero, suc, ◌+◌, ◌<◌, ◌≡◌, List, [], ◌∷◌, map, Bool, true, false, cond, not, ◌&&◌, ◌||◌, eqb, get_or}
+use Rattle.std.specs.Prelude.{ℕ, zero, suc, ◌+◌, ◌<◌, ◌≡◌, List, [], ◌∷◌, map, Bool, true, false, cond, not, ◌&&◌, ◌||◌, eqb, get_or, Option, Some, None}
 use Rattle.bits.specs.Members.{members, how_many}
 use Rattle.reliability.specs.Networks.{Ends}
 unfoldable pub use Rattle.reliability.specs.Networks.{filter}
 unfoldable pub use Rattle.reliability.specs.Rule.{largest}
-use Rattle.search.specs.declared.Found.{Found}
-use Rattle.search.specs.declared.Found.TheVariants.{At, Nothing}
-use Rattle.search.specs.declared.Pair.{Pair}
-use Rattle.search.specs.declared.Pair.TheVariants.{Both, Neither}
 
 -- what stands at the places that are set
 unfoldable pub pick : {A : Type 0} → List Bool → List A → List A
@@ -70,9 +66,9 @@ ends_in alive as₁ bs = pick (members alive) (ends_by_place as₁ bs)
 -- ---- what the searches find
 
 -- the first of a list
-abbrev pub found : List ℕ → Found
-found [] = Nothing
-found (k ∷ ks) = At k
+abbrev pub found : List ℕ → Option ℕ
+found [] = None
+found (k ∷ ks) = Some k
 
 -- the places in use whose link joins a node to itself
 abbrev pub loops : ℕ → List ℕ → List ℕ → List ℕ
@@ -83,9 +79,9 @@ abbrev pub beside : List ℕ → List ℕ → ℕ → ℕ → Bool
 beside as₁ bs i j = touching (get_or as₁ i 0) (get_or as₁ j 0) (get_or bs j 0) && touching (get_or bs i 0) (get_or as₁ j 0) (get_or bs j 0)
 
 -- the first place with a partner behind it, and its earliest partner
-unfoldable pub pair_in : (ℕ → ℕ → Bool) → List ℕ → Pair
-pair_in t [] = Neither
-pair_in t (i ∷ is) = elim (filter (t i) is) [ [] ↦ pair_in t is | j ∷ js ↦ Both i j ]
+unfoldable pub pair_in : (ℕ → ℕ → Bool) → List ℕ → Option (ℕ × ℕ)
+pair_in t [] = None
+pair_in t (i ∷ is) = elim (filter (t i) is) [ [] ↦ pair_in t is | j ∷ js ↦ Some (i, j) ]
 
 -- the nodes of a set at which there are d links
 abbrev pub with_links : ℕ → List ℕ → ℕ → List ℕ

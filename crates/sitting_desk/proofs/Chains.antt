@@ -14,7 +14,7 @@ use Rattle.tables.proofs.Theorems.{rating-range}
 use Rattle.plan.specs.Plans.{WellFormed, plan_of}
 use Rattle.plan.proofs.Verdicts.{accepted-means}
 use Rattle.plan.proofs.Accepted.{plan-valid, plan-links}
-use Rattle.causes.specs.declared.CallVerdict.TheVariants.{Accepted}
+use Rattle.std.specs.Prelude.{Ok}
 use Rattle.sittings.specs.Sittings.{traced, Saved, begun, complete, sitting, saved_after, by_largest_sum}
 use Rattle.sittings.proofs.GoodSaved.{GoodSaved, sitting-good, Fits, good-fits}
 use Rattle.saved.specs.Format.{count_in, state_in, saved_bytes, over}
@@ -89,7 +89,7 @@ module _ (plan table : List ℕ) (fine : AcceptedTable table) (well : WellFormed
       let b = saved_bytes (complete f) in
       handed-over b w (omega (arith, complete-size f)) (complete-span b (complete-state f) (complete-size f))
 
-  accept : (saved : List ℕ) → Keeps plan table saved → (x : Lent) → Allowed x → verdict_of plan table x.limit saved (length x.answer) (length x.work) ≡ Accepted
+  accept : (saved : List ℕ) → Keeps plan table saved → (x : Lent) → Allowed x → verdict_of plan table x.limit saved (length x.answer) (length x.work) ≡ Ok tt
   accept saved k x a =
       call-accepted plan table x.limit saved (length x.answer) (length x.work) (record { limited = a.limit; answer = a.room; work = a.space; tabled = fine; well = well; saves = k.again })
 

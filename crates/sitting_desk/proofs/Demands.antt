@@ -18,8 +18,8 @@ use Rattle.tables.proofs.Theorems.{rating-range}
 use Rattle.plan.specs.Plans.{WellFormed, plan_of}
 use Rattle.plan.proofs.Verdicts.{accepted-means}
 use Rattle.plan.proofs.Accepted.{plan-valid}
-use Rattle.causes.specs.declared.CallVerdict.{CallVerdict}
-use Rattle.causes.specs.declared.CallVerdict.TheVariants.{Accepted, Refused}
+use Rattle.causes.specs.Causes.{CallVerdict}
+use Rattle.std.specs.Prelude.{Ok, Err}
 use Rattle.causes.specs.Causes.{call_returned}
 use Rattle.causes.proofs.Laws.{call-number-range, zero-accepted}
 use Rattle.answers.specs.Answers.{answer_bytes, with_figure, steps_in}
@@ -91,7 +91,7 @@ module _ (plan table : List ℕ) (limit : ℕ) (saved answer work : List ℕ) wh
   pub answered-or-refused : Full o answer work ⊎ Refusal o answer work
   answered-or-refused = by-verdict v refl
     where
-      by_state : (c : Bool) → v ≡ Accepted → eqb (state_in saved) 1 ≡ c → Full o answer work
+      by_state : (c : Bool) → v ≡ Ok tt → eqb (state_in saved) 1 ≡ c → Full o answer work
       by_state true e s =
           let h = accepted-call plan table limit saved (length answer) (length work) e in
           let one = eqb-true (state_in saved) 1 s in
@@ -105,8 +105,8 @@ module _ (plan table : List ℕ) (limit : ℕ) (saved answer work : List ℕ) wh
           refl h.answer h.work few some spans
 
       by-verdict : (u : CallVerdict) → v ≡ u → Full o answer work ⊎ Refusal o answer work
-      by-verdict Accepted e = inl (by_state (eqb (state_in saved) 1) e refl)
-      by-verdict (Refused c) e =
+      by-verdict (Ok tt) e = inl (by_state (eqb (state_in saved) 1) e refl)
+      by-verdict (Err c) e =
           let same = refused plan table limit saved answer work c e in
           inr (subst (λ o. Refusal o answer work) (sym same) (record { numbered = omega (arith, call-number-range c); answered = refl; worked = refl }))
 
@@ -114,15 +114,15 @@ module _ (plan table : List ℕ) (limit : ℕ) (saved answer work : List ℕ) wh
   pub sitting-returned : o.returned ≡ call_returned v
   sitting-returned = by-verdict v refl
     where
-      by_state : (c : Bool) → v ≡ Accepted → eqb (state_in saved) 1 ≡ c → o.returned ≡ 0
+      by_state : (c : Bool) → v ≡ Ok tt → eqb (state_in saved) 1 ≡ c → o.returned ≡ 0
       by_state true e s = ap (λ (o : SittingOutcome). o.returned) (completed plan table limit saved answer work e s)
       by_state false e s = ap (λ (o : SittingOutcome). o.returned) (carried plan table limit saved answer work e s)
 
       by-verdict : (u : CallVerdict) → v ≡ u → o.returned ≡ call_returned v
-      by-verdict Accepted e = by_state (eqb (state_in saved) 1) e refl ∙ ap call_returned (sym e)
-      by-verdict (Refused c) e = ap (λ (o : SittingOutcome). o.returned) (refused plan table limit saved answer work c e) ∙ ap call_returned (sym e)
+      by-verdict (Ok tt) e = by_state (eqb (state_in saved) 1) e refl ∙ ap call_returned (sym e)
+      by-verdict (Err c) e = ap (λ (o : SittingOutcome). o.returned) (refused plan table limit saved answer work c e) ∙ ap call_returned (sym e)
 
-  accepted : o.returned ≡ 0 → v ≡ Accepted
+  accepted : o.returned ≡ 0 → v ≡ Ok tt
   accepted zero = zero-accepted v (sym sitting-returned ∙ zero)
 
   -- a call that meets none of its rows is accepted, and no other

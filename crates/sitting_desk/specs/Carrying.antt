@@ -4,9 +4,8 @@ use Rattle.std.proofs.lemmas.List.Edits.{sets}
 use Rattle.reliability.specs.declared.Figure.{Figure}
 use Rattle.reliability.specs.Rule.{Tree, tree, run, more}
 use Rattle.tables.specs.Tables.{rating, AcceptedTable}
-use Rattle.plan.specs.declared.Verdict.TheVariants.{Accepted as PlanAccepted}
+use Rattle.std.specs.Prelude.{Ok}
 use Rattle.plan.specs.Plans.{verdict, plan_of}
-use Rattle.causes.specs.declared.CallVerdict.TheVariants.{Accepted}
 use Rattle.sittings.specs.declared.Carried.{Carried}
 use Rattle.sittings.specs.Sittings.{complete, most, aside, resumed}
 use Rattle.sittings.specs.Entries.{entries, opens_in}
@@ -15,9 +14,9 @@ use Rattle.saved_verdict.specs.SavedVerdict.{saved_verdict}
 
 -- begun saved work, accepted for an accepted plan under an accepted table
 pub record Resumable (plan table saved : List ℕ) : Type 0 where
-  pub planned : verdict plan ≡ PlanAccepted
+  pub planned : verdict plan ≡ Ok tt
   pub tabled : AcceptedTable table
-  pub accepted : saved_verdict (tree (plan_of (rating table) plan)) saved ≡ Accepted
+  pub accepted : saved_verdict (tree (plan_of (rating table) plan)) saved ≡ Ok tt
   pub begun : state_in saved ≡ 0
 
 -- the row has its open splits

@@ -3,7 +3,7 @@ use Rattle.std.specs.Prelude.{ℕ, ◌+◌, ◌*◌, ◌≤◌, max, ◌≡◌, 
 use Rattle.reliability.specs.Rule.{tree}
 use Rattle.tables.specs.Tables.{rating}
 use Rattle.plan.specs.Plans.{size_m, plan_of}
-use Rattle.causes.specs.declared.CallVerdict.TheVariants.{Accepted}
+use Rattle.std.specs.Prelude.{Ok}
 use Rattle.saved.specs.Format.{over}
 use Rattle.saved_verdict.specs.SavedVerdict.{saved_verdict}
 use Rattle.sitting_desk.specs.Outcome.{SittingOutcome}
@@ -29,4 +29,4 @@ pub record Refusal (o : SittingOutcome) (answer work : List ℕ) : Type 0 where
 pub record Keeps (plan table saved : List ℕ) : Type 0 where
   pub size : length saved ≤ max 24 (8 + 12 * size_m plan)
   pub enough : length saved ≤ 776
-  pub again : saved_verdict (tree (plan_of (rating table) plan)) saved ≡ Accepted
+  pub again : saved_verdict (tree (plan_of (rating table) plan)) saved ≡ Ok tt

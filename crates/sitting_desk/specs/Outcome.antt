@@ -3,8 +3,8 @@ use Rattle.std.specs.Prelude.{ℕ, List, ◌++◌, cond, eqb, length, take, drop
 use Rattle.reliability.specs.Rule.{tree}
 use Rattle.tables.specs.Tables.{rating}
 use Rattle.plan.specs.Plans.{plan_of}
-use Rattle.causes.specs.declared.CallVerdict.{CallVerdict}
-use Rattle.causes.specs.declared.CallVerdict.TheVariants.{Accepted, Refused}
+use Rattle.causes.specs.Causes.{CallVerdict}
+use Rattle.std.specs.Prelude.{Ok, Err}
 use Rattle.causes.specs.Causes.{call_returned}
 use Rattle.refusals.specs.Refusals.{also, sitting_verdict}
 use Rattle.answers.specs.Answers.{with_figure}
@@ -28,8 +28,8 @@ given_again saved answer work = record { returned = 0; answer = take 16 (drop 8 
 
 -- accepted, or refused with all bytes as they were
 abbrev pub unless_refused : CallVerdict → List ℕ → List ℕ → SittingOutcome → SittingOutcome
-unless_refused Accepted answer work o = o
-unless_refused (Refused c) answer work o = record { returned = call_returned (Refused c); answer = answer; work = work }
+unless_refused (Ok tt) answer work o = o
+unless_refused (Err c) answer work o = record { returned = call_returned (Err c); answer = answer; work = work }
 
 -- 10 then 11 after the plan's own refusals
 abbrev pub verdict_of : List ℕ → List ℕ → ℕ → List ℕ → ℕ → ℕ → CallVerdict

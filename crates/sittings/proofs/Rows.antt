@@ -33,9 +33,9 @@ known-again i k h =
     ap (λ t. elim t as (λ x. Open) [ true ↦ known i (pair (k Down) (k Up)) | false ↦ running i ]) (le-leb (k Down) (k Up) h) ∙ ap (known i) (pair_of k)
 
 -- what is written from place i on leaves what is before
-pub get_d_sets_before : (vs l : List ℕ) (i j : ℕ) → j < i → get_or (sets l i vs) j 0 ≡ get_or l j 0
-get_d_sets_before [] l i j h = refl
-get_d_sets_before (a ∷ vs) l i j h = get_d_sets_before vs (set l i a) (suc i) j (omega arith) ∙ get_or-set_other l i j a 0 (λ e. absurd (omega arith))
+pub get_or-sets-before : (vs l : List ℕ) (i j : ℕ) → j < i → get_or (sets l i vs) j 0 ≡ get_or l j 0
+get_or-sets-before [] l i j h = refl
+get_or-sets-before (a ∷ vs) l i j h = get_or-sets-before vs (set l i a) (suc i) j (omega arith) ∙ get_or-set_other l i j a 0 (λ e. absurd (omega arith))
 
 module _ (row : List ℕ) (k a b c : ℕ) (h : 3 * k + 3 ≤ length row) where
   abbrev j : ℕ
@@ -58,13 +58,13 @@ module _ (row : List ℕ) (k a b c : ℕ) (h : 3 * k + 3 ≤ length row) where
   entry-again xs =
       let all = sets entire (suc (suc (suc j))) xs in
       let x : get_or all j 0 ≡ a =
-      get_d_sets_before xs entire (suc (suc (suc j))) j (omega arith) ∙ get_or-set_other second (suc (suc j)) j c 0 (λ e. absurd (omega arith))
+      get_or-sets-before xs entire (suc (suc (suc j))) j (omega arith) ∙ get_or-set_other second (suc (suc j)) j c 0 (λ e. absurd (omega arith))
       ∙ get_or-set_other first (suc j) j b 0 (λ e. absurd (omega arith)) ∙ get_or-set_same row j a 0 (omega arith) in
       let y : get_or all (suc j) 0 ≡ b =
-      get_d_sets_before xs entire (suc (suc (suc j))) (suc j) (omega arith) ∙ get_or-set_other second (suc (suc j)) (suc j) c 0 (λ e. absurd (omega arith))
+      get_or-sets-before xs entire (suc (suc (suc j))) (suc j) (omega arith) ∙ get_or-set_other second (suc (suc j)) (suc j) c 0 (λ e. absurd (omega arith))
       ∙ get_or-set_same first (suc j) b 0 (omega (arith, length-set row j a)) in
       let z : get_or all (suc (suc j)) 0 ≡ c =
-      get_d_sets_before xs entire (suc (suc (suc j))) (suc (suc j)) (omega arith)
+      get_or-sets-before xs entire (suc (suc (suc j))) (suc (suc j)) (omega arith)
       ∙ get_or-set_same second (suc (suc j)) c 0 (omega (arith, length-set first (suc j) b, length-set row j a)) in
       ap₂ (λ m n. entered (get_or all j 0) (get_or all m 0) (get_or all n 0)) (add-one j) (add-two j)
       ∙ ap (λ n. entered n (get_or all (suc j) 0) (get_or all (suc (suc j)) 0)) x ∙ ap₂ (entered a) y z

@@ -1,11 +1,10 @@
 -- What is known of links and branches where a step is worked on a network by value.
 use Prim.Native.Nat.{ℕ, ◌-◌, min, ◌≤◌, ◌<◌}
 use mathlib.Core.Path.{◌≡◌, sym, ap, ◌∙◌, subst}
-use mathlib.Core.List.{List}
-use mathlib.Core.Bool.{true, false, cond}
+use mathlib.Core.Bool.{true, cond}
 use native.Mathlib.Omega.{arith}
 use lib.Dec.{leb}
-use lib.ListN.{length, set}
+use lib.ListN.{length}
 use borrow.Author.Tests.{eqb-false, leb-true}
 use Rattle.rounding.specs.Rounding.{S, factor}
 use Rattle.rounding.specs.declared.Direction.TheVariants.{Down, Up}
@@ -16,22 +15,21 @@ use Rattle.reliability.specs.declared.Step.TheVariants.{OneNode, End, Series, Sp
 use Rattle.reliability.specs.Networks.{value}
 use Rattle.reliability.specs.Rule.{is_loop, across, ready, Tree, multiplied, fork, taken}
 use Rattle.reliability.specs.Terminals.{Terminals, Chosen, has as listing, into, split_at, next, end_left, series_left, sound_left, broken_left, leaves, tree}
-use Rattle.reliability.specs.Simple.{Loopless, Pairless, Plain, Simple}
+use Rattle.reliability.specs.Simple.{Plain, Simple}
 use Rattle.reliability.proofs.Validity.{proper-at}
 use Rattle.reliability.proofs.Unrolled.{Below, tree-settled, tree-factored, workAt, tree-split, below-factored, below-branches}
 use Rattle.reliability.proofs.Steps.{AtSplit}
 use Rattle.reliability.proofs.TerminalSteps.{split-there}
 use Rattle.reliability.proofs.Lists.{getD-mem}
 use Rattle.reliability.proofs.Searches.{none_found}
-use Rattle.reliability.proofs.Simple.{one-tree as one-chosen, end-simple, series-plain, contracted-plain, deleted-loopless, deleted-pairless}
+use Rattle.reliability.proofs.Simple.{one-tree as one-chosen, end-simple, series-plain, contracted-plain}
 use Rattle.search.specs.Searches.{nodes_in}
 use Rattle.search.proofs.Marks.{length-places}
-use Rattle.parts.specs.Tallies.{Written}
 use Rattle.network.specs.declared.Network.{Network}
 use Rattle.network.specs.Places.{network_of, terminals_of, links_of, chosen_of, index_of, link_of, row_of, Used, Invariant, Sized, ranked, Fitting}
 use Rattle.network.specs.Workable.{Workable}
 use Rattle.network.proofs.Picks.{index-within, link-at}
-use Rattle.network.proofs.Kept.{chosen-of, by_rule, known, deletes}
+use Rattle.network.proofs.Kept.{chosen-of, by_rule, known}
 
 -- both values of a link, or both figures, are at most S
 abbrev pub Within : ℕ → ℕ → Type 0
@@ -42,10 +40,6 @@ module _ (n : Network) (holds : Invariant n) where
   link-within sized e i u is =
       let p = proper-at (network_of n) holds.valid (index_of n i) (index-within n sized i u) in
       subst (λ (f : Link). Within f.low f.high) (sym is) (p.range Down, p.range Up)
-
--- a step fits the same network
-pub moved-fits : {n r : Network} {s : Step} → n ≡ r → Fitting n s → Fitting r s
-moved-fits {s = s} e f = subst (λ (n : Network). Fitting n s) e f
 
 module _ (n : Network) (work : Workable n) where
   abbrev g : Terminals
@@ -152,31 +146,3 @@ module _ (n : Network) (work : Workable n) where
 
       pub broken-below : Below g broken
       broken-below = below_both.1
-
-      -- the network without link q, by value
-      module _ (e : Link) (is : e ≡ row_of n.a n.b n.low n.high q) (others : ℕ) (one two : List ℕ) (cleared : members others ≡ set (members n.alive) q false)
-          (first : Written false e.a q n.at one) (second : Written false e.b q one two) where
-        abbrev r : Network
-        r = record { alive = others; at = two; low = n.low; high = n.high; a = n.a; b = n.b; nodes = n.nodes; chosen = n.chosen }
-
-        pub broken-is : (terminals_of r ≡ broken) × Invariant r
-        broken-is = deletes n work.sized work.holds q used others one two cleared
-            (subst (λ (l : Link). Written false l.a q n.at one) is first) (subst (λ (l : Link). Written false l.b q one two) is second)
-
-        pub broken-sized : Sized r
-        broken-sized = record {
-          nodes = work.sized.nodes;
-          chosen = work.sized.chosen;
-          at_length = second.size ∙ first.size ∙ work.sized.at_length;
-          a_length = work.sized.a_length;
-          b_length = work.sized.b_length;
-          low_length = work.sized.low_length;
-          high_length = work.sized.high_length;
-        }
-
-        -- it has no loop and no pair
-        pub broken-loopless : Loopless (network_of r)
-        broken-loopless = subst (λ (h : Terminals). Loopless h.network) (sym broken-is.0) (deleted-loopless (network_of n) work.simple.plain.loopless (index_of n q))
-
-        pub broken-pairless : Pairless (network_of r)
-        broken-pairless = subst (λ (h : Terminals). Pairless h.network) (sym broken-is.0) (deleted-pairless (network_of n) work.simple.plain.loopless work.simple.pairless (index_of n q))

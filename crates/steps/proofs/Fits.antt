@@ -16,7 +16,7 @@ use Rattle.reliability.specs.Rule.{lowest, end_of, when, ◌otherwise◌}
 use Rattle.reliability.specs.Terminals.{series_in, split_at, next}
 use Rattle.reliability.proofs.TerminalSteps.{Fits, fits}
 use Rattle.reliability.proofs.Simple.{simple-next}
-use Rattle.search.specs.declared.Found.TheVariants.{At}
+use Rattle.std.specs.Prelude.{Some}
 use Rattle.search.specs.Searches.{pick, places_in, filter, touching, Bounded, found, with_links, between_at, in_line, counts_of, count_sum, largest_in}
 use Rattle.search.proofs.Sets.{has, has-below, mem-has, at-node}
 use Rattle.search.proofs.Marks.{Lowest, length-places, lowest-in, lowest-first, lowest-rest, rest-count, rest-within}
@@ -73,19 +73,19 @@ module _ (n : Network) (work : Workable n) where
       place-used n k ((and-eq-true_iff (has n.alive k) (touching v (get_or n.a k 0) (get_or n.b k 0))).0 (sym (at-node n.at n.a n.b n.alive holds.tallies v h k) ∙ e)).0
 
   -- the lowest node that passes a test
-  lowest-node : (p : ℕ → Bool) (v : ℕ) → found (filter p (nodes_of n)) ≡ At v → (v < 32) × (first (filter p (nodes_of n)) ≡ some v) × (p v ≡ true)
+  lowest-node : (p : ℕ → Bool) (v : ℕ) → found (filter p (nodes_of n)) ≡ Some v → (v < 32) × (first (filter p (nodes_of n)) ≡ some v) × (p v ≡ true)
   lowest-node p v e =
       let h = hit p (nodes_of n) v e in
       (has-below n.nodes 32 v sized.nodes (mem-has n.nodes v h.member), h.first, h.test)
 
   -- with one link
-  pub end-node : (v : ℕ) → found (with_links 1 n.at n.nodes) ≡ At v → (v < 32) × (first (with_links 1 n.at n.nodes) ≡ some v) × (how_many (members (get_or n.at v 0)) ≡ 1)
+  pub end-node : (v : ℕ) → found (with_links 1 n.at n.nodes) ≡ Some v → (v < 32) × (first (with_links 1 n.at n.nodes) ≡ some v) × (how_many (members (get_or n.at v 0)) ≡ 1)
   end-node v e =
       let h = lowest-node (λ w. eqb (how_many (members (get_or n.at w 0))) 1) v e in
       (h.0, h.1, eqb-true (how_many (members (get_or n.at v 0))) 1 h.2)
 
   -- with two links that can become one
-  pub line-node : (v : ℕ) → found (in_line n.chosen n.at n.a n.b n.nodes) ≡ At v
+  pub line-node : (v : ℕ) → found (in_line n.chosen n.at n.a n.b n.nodes) ≡ Some v
       → (v < 32) × (first (in_line n.chosen n.at n.a n.b n.nodes) ≡ some v) × (how_many (members (get_or n.at v 0)) ≡ 2)
   line-node v e =
       let h = lowest-node (λ w. eqb (how_many (members (get_or n.at w 0))) 2 && between_at n.chosen n.a n.b w (get_or n.at w 0)) v e in
@@ -96,7 +96,7 @@ module _ (n : Network) (work : Workable n) where
   bounded_at v h p e = bounded n sized holds.valid p (at-used v p h e).used
 
   module _ (more : leb (how_many (members n.chosen)) 1 ≡ false) where
-    pub end-right : (v i : ℕ) → found (with_links 1 n.at n.nodes) ≡ At v → i ≡ first_of (members (get_or n.at v 0)) → Fitting n (End v i)
+    pub end-right : (v i : ℕ) → found (with_links 1 n.at n.nodes) ≡ Some v → i ≡ first_of (members (get_or n.at v 0)) → Fitting n (End v i)
     unfolding ranked
     end-right v i e f =
         let (below, lowest, one) = end-node v e in
@@ -112,7 +112,7 @@ module _ (n : Network) (work : Workable n) where
       by-series : (series : Option Step) → lowest (series_in (terminals_of n)) (links_of n) (nodes_of n) ≡ series → next (terminals_of n) ≡ (series otherwise Split (split_at (terminals_of n)))
       by-series = by_tests false more none (end-rule n sized n.at holds.tallies ∙ ap (λ (l : List ℕ). Option.map end_at (first l)) no_end)
 
-      pub series-right : (v i r j : ℕ) → found (in_line n.chosen n.at n.a n.b n.nodes) ≡ At v → i ≡ first_of (members (get_or n.at v 0))
+      pub series-right : (v i r j : ℕ) → found (in_line n.chosen n.at n.a n.b n.nodes) ≡ Some v → i ≡ first_of (members (get_or n.at v 0))
           → members r ≡ set (members (get_or n.at v 0)) (first_of (members (get_or n.at v 0))) false → j ≡ first_of (members r) → Fitting n (Series v i j)
       unfolding ranked
       series-right v i r j e f rest g =

@@ -1,6 +1,6 @@
 -- An accepted table is the built-in one or 512 values that begin with S and never rise, so every rating is at most S.
 use Prim.Native.Nat.{ℕ, zero, suc, ◌+◌, ◌-◌, ◌≤◌, ◌<◌}
-use mathlib.Core.Path.{◌≡◌, refl, sym, ap, ◌∙◌, subst}
+use mathlib.Core.Path.{◌≡◌, refl, ap, ◌∙◌, subst}
 use mathlib.Core.List.{List, [], ◌∷◌}
 use mathlib.Core.Logic.{inl, inr, ◌↔◌, by_cases}
 use mathlib.Core.Bool.{Bool, true, false, ◌&&◌, ◌||◌, and-eq-true_iff, false≢true}
@@ -10,7 +10,7 @@ use native.Mathlib.Numerals.{add-one}
 use native.Mathlib.Omega.{arith}
 use lib.Dec.{eqb, leb}
 use lib.ListN.{length}
-use borrow.Author.Tests.{le-leb, lt-leb, leb-true, eqb-true, ne_eqb}
+use borrow.Author.Tests.{le-leb, lt-leb, leb-true, eqb-true}
 use Rattle.rounding.specs.Rounding.{S}
 use Rattle.ratings.specs.Ratings.{AtMostS}
 use Rattle.ratings.proofs.Laws.{built-in-range}
@@ -60,16 +60,6 @@ passing table i zero f = refl
 passing table i (suc n) f =
     (and-eq-true_iff (leb (value_in table (suc i)) (value_in table i)) (never_rises table (suc i) n)).1
     (le-leb (value_in table (suc i)) (value_in table i) (f i (le_refl i) (omega arith)), passing table (suc i) n (λ k l h. f k (omega arith) (omega arith)))
-
--- a table of some bytes: its size, and the tests of its values
-module _ (table : List ℕ) (some : length table ≡ 0 → ⊥) where
-  pub whole : sized table ≡ true → length table ≡ 2048
-  unfolding sized
-  whole e = eqb-true (length table) 2048 (sym (simp (ne_eqb (length table) 0 some)) ∙ e)
-
-  pub by_values : (s t : Bool) → eqb (value_in table 0) S ≡ s → never_rises table 0 511 ≡ t → well_rated table ≡ s && t
-  unfolding well_rated
-  by_values s t e f = simp (ne_eqb (length table) 0 some, e, f)
 
 module _ (table : List ℕ) where
   built-in-passes : table ≡ [] → (sized table ≡ true) × (well_rated table ≡ true)

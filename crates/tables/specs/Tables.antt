@@ -1,8 +1,10 @@
 -- A buyer's own table: a rating by length in place of T, 512 values of 32 bits, little-endian; and what one has to be.
-use Rattle.std.specs.Prelude.{ℕ, zero, suc, ◌*◌, ◌≤◌, ◌≡◌, List, [], ◌∷◌, ◌⊎◌, Bool, true, ◌&&◌, ◌||◌, eqb, leb, length}
+use Rattle.std.specs.Prelude.{ℕ, zero, suc, ◌*◌, ◌≤◌, ◌≡◌, List, [], ◌∷◌, ◌⊎◌, Bool, true, cond, ◌&&◌, ◌||◌, eqb, leb, length, Result, Ok, Err}
 use Rattle.words.specs.Words.{word32}
 use Rattle.rounding.specs.Rounding.{S}
 use Rattle.ratings.specs.Ratings.{T}
+use Rattle.tables.specs.declared.Cause.{Cause}
+use Rattle.tables.specs.declared.Cause.TheVariants.{Size, Values}
 
 -- value k
 unfoldable pub value_in : List ℕ → ℕ → ℕ
@@ -27,6 +29,10 @@ never_rises table i (suc k) = leb (value_in table (suc i)) (value_in table i) &&
 -- the first value is S, and none of the 511 others is above the one before; of a table of no bytes nothing is asked
 unfoldable pub well_rated : List ℕ → Bool
 well_rated table = eqb (length table) 0 || (eqb (value_in table 0) S && never_rises table 0 511)
+
+-- the size first, then the values
+unfoldable pub verdict : List ℕ → Result (Unit {0}) Cause
+verdict table = cond (sized table) (cond (well_rated table) (Ok tt) (Err Values)) (Err Size)
 
 -- ---- what a table has to be
 

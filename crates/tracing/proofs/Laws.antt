@@ -102,7 +102,3 @@ module _ (alive c : ℕ) (row : List ℕ) (k left : ℕ) (some : 0 < left) where
       go : (b : Bool) → (eqb stored 0 || eqb stored chosenAt) ≡ b → b ≡ false
       go false e = refl
       go true e = absurd (h (sym (split-placed alive c row k left some e)))
-
--- one is left: none behind it
-pub one_left : (left : ℕ) → (left ≡ 0 → ⊥) → eqb left 1 ≡ eqb (left - 1) 0
-one_left left h = by_eqb (λ b. b ≡ eqb (left - 1) 0) left 1 (λ e. sym (eq-eqb (left - 1) 0 (omega arith))) (λ more. sym (ne_eqb (left - 1) 0 (λ e. more (omega arith))))

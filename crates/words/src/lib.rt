@@ -1,10 +1,11 @@
-// Numbers in bytes, little-endian: read and written.
+//! Numbers in bytes, little-endian: read and written.
 #![tactic(auto)]
 
-ghost use Rattle.std.specs.Prelude.{◌≡◌, ◌+◌, ◌≤◌, length};
+ghost use Rattle.std.specs.Prelude.{◌≡◌, ℕ, ◌+◌, ◌*◌, ◌^◌, ◌≤◌, ◌<◌, List, length};
 ghost use Rattle.words.specs.Words.{byte, word16, word32, with16, with32};
+ghost use Rattle.words.specs.ReadBack.{read-back16, read-back32};
 
-// The number in one, two and four bytes from a place on.
+/// The byte at a place.
 pub fn byte(s: &[u8], at: usize) -> u8
     requires { at + 1 ≤ length s.now }
     ensures { result ≡ byte s.now at }
@@ -12,39 +13,65 @@ pub fn byte(s: &[u8], at: usize) -> u8
     s[at]
 }
 
-pub fn word16(s: &[u8], at: usize) -> u16
-    requires { at + 2 ≤ length s.now }
-    ensures { result ≡ word16 s.now at }
-{
-    let low = s[at] as u16;
-    let high = s[at + 1] as u16;
-    low + 256 * high
+/// A number of two or four bytes.
+pub trait Word: Copy {
+    ghost size: { ℕ };
+
+    ghost number: { Self → ℕ };
+
+    ghost word: { List ℕ → ℕ → Self };
+
+    ghost written: { List ℕ → ℕ → Self → List ℕ };
+
+    /// The number that stands at a place.
+    fn read(s: &[u8], at: usize) -> Self
+        requires { at + size ≤ length s.now }
+        ensures { result ≡ word s.now at };
+
+    /// The number written from a place on: the other bytes keep their contents.
+    fn put(self, b: &mut [u8], at: usize)
+        requires { at + size ≤ length b.old }
+        ensures { b.new ≡ written b.old at self };
+
+    ghost read_back: { (b : List ℕ) (at : ℕ) (x : Self) → at + size ≤ length b → number x < 2 ^ (8 * size) → word (written b at x) at ≡ x };
 }
 
-pub fn word32(s: &[u8], at: usize) -> u32
-    requires { at + 4 ≤ length s.now }
-    ensures { result ≡ word32 s.now at }
-{
-    let low = word16(s, at) as u32;
-    let high = word16(s, at + 2) as u32;
-    low + 65_536 * high
+impl Word for u16 {
+    ghost size = { 2 };
+
+    ghost number = { λ x. x };
+
+    ghost word = { word16 };
+
+    ghost written = { with16 };
+
+    ghost read_back = { read-back16 };
+
+    fn read(s: &[u8], at: usize) -> u16 {
+        u16::from_le_bytes([s[at], s[at + 1]])
+    }
+
+    fn put(self, b: &mut [u8], at: usize) {
+        b[at..at + 2].copy_from_slice(&self.to_le_bytes());
+    }
 }
 
-// A number in the two or four bytes from a place on; the others keep their contents.
-pub fn put_word16(b: &mut [u8], at: usize, x: u16)
-    requires { at + 2 ≤ length b.old }
-    ensures { b.new ≡ with16 b.old at x }
-{
-    b[at] = (x % 256) as u8;
-    b[at + 1] = (x / 256) as u8;
-}
+impl Word for u32 {
+    ghost size = { 4 };
 
-pub fn put_word32(b: &mut [u8], at: usize, x: u32)
-    requires { at + 4 ≤ length b.old }
-    ensures { b.new ≡ with32 b.old at x }
-{
-    b[at] = (x % 256) as u8;
-    b[at + 1] = (x / 256 % 256) as u8;
-    b[at + 2] = (x / 65536 % 256) as u8;
-    b[at + 3] = (x / 16777216 % 256) as u8;
+    ghost number = { λ x. x };
+
+    ghost word = { word32 };
+
+    ghost written = { with32 };
+
+    ghost read_back = { read-back32 };
+
+    fn read(s: &[u8], at: usize) -> u32 {
+        u32::from_le_bytes([s[at], s[at + 1], s[at + 2], s[at + 3]])
+    }
+
+    fn put(self, b: &mut [u8], at: usize) {
+        b[at..at + 4].copy_from_slice(&self.to_le_bytes());
+    }
 }

@@ -18,8 +18,8 @@ overflow_sub-result c =
     let h : n < 64 = search rules in
     rw (power n h) (pow_pos n)
 
-pub returns : goal.returns
-returns c =
+pub returns-else-n-eq64 : goal.returns-else-n-eq64
+returns-else-n-eq64 c =
     let n = c.args.n in
     let h : n < 64 = search rules in
     rw (power n h) (digits-full 64 n (omega arith))

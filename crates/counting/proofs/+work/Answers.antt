@@ -25,7 +25,7 @@ use Rattle.counting.proofs.Branches.{row_room, apart, Branch, broken}
 use Rattle.counting.proofs.Arms.{loop-row, no-loop-at, sound-branch, broken-branch, split-row, sound-room, broken-room, work as work-of, one-row, end-used, end_row, split-used, first-used, second-used, first-here, then-sound, sound-loopless, broken-loopless, sound-row, broken-row}
 use borrow.Author.Rules.{rules}
 use Rattle.counting.proofs.+work.Goals as goal
-use Rattle.counting.proofs.+work.Goals.{After-contracted, After-contracted-in-Series, After-contracted-in-Series-2, After-contracted-in-Series-3, After-contracted-in-Split, After-deleted, After-deleted-in-Series, After-deleted-in-Split, After-step, After-times-broken, After-work, After-work-broken, After-work-in-End, After-work-one, Else-pieces-gt1, In-At, In-End, In-Series, In-Split, In_default, Start}
+use Rattle.counting.proofs.+work.Goals.{After-contracted, After-contracted-in-Series, After-contracted-in-Series-2, After-contracted-in-Series-3, After-contracted-in-Split, After-deleted, After-deleted-in-Series, After-deleted-in-Split, After-step, After-times-broken, After-work, After-work-broken, After-work-in-End, After-work-one, Else-pieces-gt1, In-Some, In-End, In-Series, In-Split, In_default, Start}
 
 sized : (t : ℕ) (s : Start t) → Sized s.args.net
 sized t s = search rules
@@ -41,8 +41,8 @@ worked n h r f b k x = k x ∙ ap (worth x) b.stands
 room : (t : ℕ) (s : Start t) (f : ℕ → ℕ) → ((x : ℕ) → f x ≡ worth x (network_of s.args.net)) → Fits f
 room t s f e = row_room (network_of s.args.net) s.requires.room f e
 
-loop-at : (t : ℕ) (k : In-At t) → let n = k.args.net in let i = k.in-At.k in Used n i × (first_at is_loop (links_of n) ≡ found (index_of n i))
-loop-at t k = loop-found k.args.net (sized t (goal.at.In-At t k).Start) _ (sym k.first_loop.ensures ∙ k.in-At.is)
+loop-at : (t : ℕ) (k : In-Some t) → let n = k.args.net in let i = k.in-Some.k in Used n i × (first_at is_loop (links_of n) ≡ found (index_of n i))
+loop-at t k = loop-found k.args.net (sized t (goal.at.In-Some t k).Start) _ (sym k.first_loop.ensures ∙ k.in-Some.is)
 
 pub offset_bounds-net-k : goal.offset_bounds-net-k
 offset_bounds-net-k t c = record { fits = omega (arith, (loop-at t c).0.below) }
@@ -51,22 +51,22 @@ pub bounds-net-k : goal.bounds-net-k
 bounds-net-k t c = (loop-at t c).0.below
 
 pub deleted-requires : goal.deleted-requires
-deleted-requires t c = (c.requires.holds, (loop-at t (goal.at.deleted-requires t c).In-At).0)
+deleted-requires t c = (c.requires.holds, (loop-at t (goal.at.deleted-requires t c).In-Some).0)
 
-loop-branch : (t : ℕ) (c : After-deleted t) → let n = c.args.net in Branch n (deleted (index_of n c.in-At.k) (network_of n)) c.deleted.result
+loop-branch : (t : ℕ) (c : After-deleted t) → let n = c.args.net in Branch n (deleted (index_of n c.in-Some.k) (network_of n)) c.deleted.result
 loop-branch t c =
-    broken c.args.net (sized t (goal.at.After-deleted t c).Start) c.requires _ (loop-at t (goal.at.After-deleted t c).In-At).0 c.deleted.result c.deleted.ensures.0 c.deleted.ensures.1
+    broken c.args.net (sized t (goal.at.After-deleted t c).Start) c.requires _ (loop-at t (goal.at.After-deleted t c).In-Some).0 c.deleted.result c.deleted.ensures.0 c.deleted.ensures.1
 
 pub work-requires : goal.work-requires
 work-requires t c = onto t (goal.at.work-requires t c).Start _ c.deleted.result (loop-branch t c)
 
 loop-worked : (t : ℕ) (c : After-work t) (x : ℕ)
-    → let n = c.args.net in (some x (get_or n.low c.in-At.k 0) + 1) * eval x c.work.result ≡ worth x (network_of n)
+    → let n = c.args.net in (some x (get_or n.low c.in-Some.k 0) + 1) * eval x c.work.result.entries ≡ worth x (network_of n)
 loop-worked t c =
-    loop-row c.args.net (sized t (goal.at.After-work t c).Start) c.requires _ (loop-at t (goal.at.After-work t c).In-At).0 (loop-at t (goal.at.After-work t c).In-At).1 (λ x. eval x c.work.result) (worked c.args.net _ c.deleted.result _ (loop-branch t (goal.at.After-work t c).After-deleted) c.work.ensures)
+    loop-row c.args.net (sized t (goal.at.After-work t c).Start) c.requires _ (loop-at t (goal.at.After-work t c).In-Some).0 (loop-at t (goal.at.After-work t c).In-Some).1 (λ x. eval x c.work.result.entries) (worked c.args.net _ c.deleted.result _ (loop-branch t (goal.at.After-work t c).After-deleted) c.work.ensures)
 
-pub returns-in-At : goal.returns-in-At
-returns-in-At t c = λ x. c.looped.ensures x ∙ loop-worked t (goal.at.returns-in-At t c).After-work x
+pub returns-in-Some : goal.returns-in-Some
+returns-in-Some t c = λ x. c.looped.ensures x ∙ loop-worked t (goal.at.returns-in-Some t c).After-work x
 
 pub looped-requires : goal.looped-requires
 looped-requires t c = room t (goal.at.looped-requires t c).Start _ (loop-worked t c)
@@ -109,7 +109,7 @@ module _ (t : ℕ) (e : Else-pieces-gt1 t) where
   workable = work-of given net from.requires made sized-net few
 
 pub step-requires : goal.step-requires
-step-requires t c = workable t c
+step-requires t c = workable t (goal.at.step-requires t c).Else-pieces-gt1
 
 fitting : (t : ℕ) (a : After-step t) (r : Next) → a.step.result ≡ r → Fitting (net t (goal.at.After-step t a).Else-pieces-gt1) (step_of r)
 fitting t a r e = subst (λ (q : Next). Fitting (net t (goal.at.After-step t a).Else-pieces-gt1) (step_of q)) e a.step.ensures
@@ -145,10 +145,10 @@ pub work-requires-in-End : goal.work-requires-in-End
 work-requires-in-End t c = onto t (from t (end-else t (goal.at.work-requires-in-End t c).In-End)) _ c.contracted.result (end_branch t c)
 
 end-worked : (t : ℕ) (c : After-work-in-End t) (x : ℕ)
-    → let e = end-else t (goal.at.After-work-in-End t c).In-End in some x (get_or (net t e).low (end-place t (goal.at.After-work-in-End t c).In-End) 0) * eval x c.work-in-End.result ≡ worth x (network_of (given t e))
+    → let e = end-else t (goal.at.After-work-in-End t c).In-End in some x (get_or (net t e).low (end-place t (goal.at.After-work-in-End t c).In-End) 0) * eval x c.work-in-End.result.entries ≡ worth x (network_of (given t e))
 end-worked t c =
     let e = end-else t (goal.at.After-work-in-End t c).In-End in
-    end_row (given t e) (net t e) (from t e).requires (made t e) (sized-net t e) (few t e) _ _ (end-fitting t (goal.at.After-work-in-End t c).In-End) (λ x. eval x c.work-in-End.result)
+    end_row (given t e) (net t e) (from t e).requires (made t e) (sized-net t e) (few t e) _ _ (end-fitting t (goal.at.After-work-in-End t c).In-End) (λ x. eval x c.work-in-End.result.entries)
     (worked (given t e) _ c.contracted.result _ (end_branch t (goal.at.After-work-in-End t c).After-contracted) c.work-in-End.ensures)
 
 pub returns-in-End : goal.returns-in-End
@@ -284,10 +284,10 @@ module _ (t : ℕ) (c : After-work-one t) where
   line = line-else t line_known
 
   abbrev both : ℕ → ℕ
-  both x = eval x c.work-both.result
+  both x = eval x c.work-both.result.entries
 
   abbrev one : ℕ → ℕ
-  one x = eval x c.work-one.result
+  one x = eval x c.work-one.result.entries
 
   one-worked : (x : ℕ) → one x ≡ worth x (sound_at (earlier t line_known) (breaker t line_known))
   one-worked = worked (given t line) _ c.contracted-in-Series-3.result one (one-sound t (goal.at.After-work-one t c).After-contracted-in-Series-3) c.work-one.ensures
@@ -305,10 +305,10 @@ module _ (t : ℕ) (c : After-work-one t) where
       broken-row (given t e) (net t e) (from t e).requires (made t e) (sized-net t e) (few t e) (middle t k) (first t k) (second t k) (line-fitting t k) one one-worked
 
 line-worked : (t : ℕ) (c : After-times-broken t) (x : ℕ)
-    → some x (get_or (net t (line t (goal.at.After-times-broken t c).After-work-one)).low (second t (line_known t (goal.at.After-times-broken t c).After-work-one)) 0) * eval x c.split-sound.result + eval x c.times-broken.result ≡ worth x (network_of (given t (line t (goal.at.After-times-broken t c).After-work-one)))
+    → some x (get_or (net t (line t (goal.at.After-times-broken t c).After-work-one)).low (second t (line_known t (goal.at.After-times-broken t c).After-work-one)) 0) * eval x c.split-sound.result.entries + eval x c.times-broken.result.entries ≡ worth x (network_of (given t (line t (goal.at.After-times-broken t c).After-work-one)))
 line-worked t c =
     let e = line t (goal.at.After-times-broken t c).After-work-one in
-    split-row (given t e) (net t e) (from t e).requires (made t e) (sized-net t e) _ (second_at t (line_known t (goal.at.After-times-broken t c).After-work-one)) (λ x. eval x c.split-sound.result) (λ x. eval x c.times-broken.result)
+    split-row (given t e) (net t e) (from t e).requires (made t e) (sized-net t e) _ (second_at t (line_known t (goal.at.After-times-broken t c).After-work-one)) (λ x. eval x c.split-sound.result.entries) (λ x. eval x c.times-broken.result.entries)
     (λ x. c.split-sound.ensures x ∙ sound-worked t (goal.at.After-times-broken t c).After-work-one x) (λ x. c.times-broken.ensures x ∙ broken-worked t (goal.at.After-times-broken t c).After-work-one x)
 
 pub split-sound-requires : goal.split-sound-requires
@@ -368,10 +368,10 @@ pub work-broken-requires : goal.work-broken-requires
 work-broken-requires t c = onto t (from t (split-else t (goal.at.work-broken-requires t c).In-Split)) _ c.deleted-in-Split.result (split-broken t c)
 
 split-worked : (t : ℕ) (c : After-work-broken t) (x : ℕ)
-    → let e = split-else t (goal.at.After-work-broken t c).In-Split in some x (get_or (net t e).low (split-place t (goal.at.After-work-broken t c).In-Split) 0) * eval x c.work-sound.result + eval x c.work-broken.result ≡ worth x (network_of (given t e))
+    → let e = split-else t (goal.at.After-work-broken t c).In-Split in some x (get_or (net t e).low (split-place t (goal.at.After-work-broken t c).In-Split) 0) * eval x c.work-sound.result.entries + eval x c.work-broken.result.entries ≡ worth x (network_of (given t e))
 split-worked t c =
     let e = split-else t (goal.at.After-work-broken t c).In-Split in
-    split-row (given t e) (net t e) (from t e).requires (made t e) (sized-net t e) _ (split_at t (goal.at.After-work-broken t c).In-Split) (λ x. eval x c.work-sound.result) (λ x. eval x c.work-broken.result)
+    split-row (given t e) (net t e) (from t e).requires (made t e) (sized-net t e) _ (split_at t (goal.at.After-work-broken t c).In-Split) (λ x. eval x c.work-sound.result.entries) (λ x. eval x c.work-broken.result.entries)
     (worked (given t e) _ c.contracted-in-Split.result _ (split-sound t (goal.at.After-work-broken t c).After-contracted-in-Split) c.work-sound.ensures)
     (worked (given t e) _ c.deleted-in-Split.result _ (split-broken t (goal.at.After-work-broken t c).After-deleted-in-Split) c.work-broken.ensures)
 

@@ -1,11 +1,9 @@
-use Prim.Native.Nat.{ℕ, suc, ◌+◌, ◌≤◌, ◌<◌}
+use Prim.Native.Nat.{ℕ, suc, ◌+◌, ◌≤◌}
 use mathlib.Core.Path.{◌≡◌, refl, sym, ap, ◌∙◌, subst}
-use mathlib.Core.List.{List, [], ◌∷◌, ◌++◌, append_assoc}
+use mathlib.Core.List.{List, [], ◌∷◌, ◌++◌}
 use mathlib.Core.Bool.{Bool, true, false}
-use native.Mathlib.Numerals.{add-one}
 use native.Mathlib.Omega.{arith}
-use lib.ListN.{length, take, drop, set, get_or, length-take}
-use lib.Seq.{take-suc, drop-cons, set_at}
+use lib.ListN.{length, take, drop, length-take}
 use Rattle.bits.specs.Members.{members, how_many}
 use Rattle.bits.proofs.Digits.{length_digits}
 use Rattle.reliability.specs.Networks.{Network as Graph}
@@ -19,7 +17,7 @@ use Rattle.sets.proofs.Counting.{single-room, row_is}
 use Rattle.counting.specs.Countable.{Countable}
 use borrow.Author.Rules.{rules}
 use Rattle.counting.proofs.fill.Goals as goal
-use Rattle.counting.proofs.fill.Goals.{Start}
+use Rattle.counting.proofs.fill.Goals.{After-work-counts, Start}
 
 -- as many are picked as there are places
 length-pick : {A : Type 0} (bs : List Bool) (xs : List A) → length bs ≡ length xs → length (pick bs xs) ≡ how_many bs
@@ -31,12 +29,6 @@ length-pick (false ∷ bs) (x ∷ xs) h = length-pick bs xs (omega arith)
 
 links-counted : (n : Network) → Sized n → (m : ℕ) → m ≡ how_many (members n.alive) → m ≡ length (links_of n)
 links-counted n sized m e = e ∙ sym (length-pick (members n.alive) (all_rows n) (length_digits 64 n.alive ∙ sym (length-all n sized)))
-
--- one entry more
-turn : (r s : List ℕ) (i : ℕ) → i < length r → i < length s → set (take i s ++ drop i r) i (get_or s i 0) ≡ take (suc i) s ++ drop (suc i) r
-turn r s i h k =
-    ap (λ l. set (take i s ++ l) i (get_or s i 0)) (drop-cons r i 0 h) ∙ set_at (take i s) (get_or r i 0) (drop (suc i) r) (get_or s i 0) i (omega (arith, length-take i s))
-    ∙ sym (ap (λ l. l ++ drop (suc i) r) (take-suc s i 0 k) ∙ append_assoc (take i s) (get_or s i 0 ∷ []) (drop (suc i) r))
 
 sized : (c : Start) → Sized c.args.net
 sized c = search rules
@@ -53,29 +45,31 @@ pub work-counts-requires : goal.work-counts-requires
 work-counts-requires c =
     alone c.args.net c.single.result c.requires.2 c.requires.1 c.single.ensures
 
-pub loop-i-init : goal.loop-i-init
-loop-i-init c =
-    let m = links-counted c.args.net (sized (goal.at.loop-i-init c).Start) c.count-m.result c.count-m.ensures in
-    let small = c.requires.2 in
-    let fits = c.requires.3 in
-    (omega arith, omega arith, search rules, search rules, refl, refl)
+-- m is the number of links
+counted : (c : After-work-counts) → c.count-m.result ≡ length (links_of c.args.net)
+counted c = links-counted c.args.net (sized (goal.at.After-work-counts c).Start) c.count-m.result c.count-m.ensures
 
-pub loop-i-preserved : goal.loop-i-preserved
-loop-i-preserved c =
-    let h = c.loop-i in
-    let row = c.args.row.now in
-    let counts = c.work-counts.result in
-    let next : set h.row h.i (get_or counts h.i 0) ≡ take (h.i + 1) counts ++ drop (h.i + 1) row =
-    ap (λ l. set l h.i (get_or counts h.i 0)) h.invariant.5 ∙ turn row counts h.i (omega arith) (omega arith) ∙ ap (λ k. take k counts ++ drop k row) (sym (add-one h.i)) in
-    (search rules, search rules, search rules, search rules, search rules, next)
+pub slice_bounds-copy_from_slice-end : goal.slice_bounds-copy_from_slice-end
+slice_bounds-copy_from_slice-end c = omega (arith, counted c, c.requires.3)
+
+pub slice_bounds-copy_from_slice-end-2 : goal.slice_bounds-copy_from_slice-end-2
+slice_bounds-copy_from_slice-end-2 c = omega (arith, counted (goal.at.slice_bounds-copy_from_slice-end-2 c).After-work-counts, c.requires.3, length-take (c.count-m.result + 1) c.args.row.now)
+
+pub shared_ref_as_front-copy_from_slice : goal.shared_ref_as_front-copy_from_slice
+shared_ref_as_front-copy_from_slice c = omega (arith, counted (goal.at.shared_ref_as_front-copy_from_slice c).After-work-counts, c.requires.2)
+
+pub copy_from_slice-requires : goal.copy_from_slice-requires
+copy_from_slice-requires c =
+    let long : length c.work-counts.result.entries ≡ 25 = search rules in
+    omega (arith, counted (goal.at.copy_from_slice-requires c).After-work-counts, c.requires, length-take (c.count-m.result + 1) c.args.row.now, length-take (c.count-m.result + 1) c.work-counts.result.entries)
 
 pub returns : goal.returns
 returns c =
-    let h = c.loop-i in
     let n = c.args.net in
     let row = c.args.row.now in
-    let m = links-counted n (sized (goal.at.returns c).Start) c.count-m.result c.count-m.ensures in
-    let end : h.i ≡ suc (length (links_of n)) = omega arith in
-    h.invariant.5 ∙ ap (λ k. take k c.work-counts.result ++ drop k row) end
+    let counts = c.work-counts.result.entries in
+    let long : length counts ≡ 25 = search rules in
+    let m : c.count-m.result + 1 ≡ suc (length (links_of n)) = omega (arith, counted (goal.at.returns c).After-work-counts) in
+    ap (λ l. l ++ drop (c.count-m.result + 1) row) c.copy_from_slice.ensures.after ∙ ap (λ k. take k counts ++ drop k row) m
     ∙ ap (λ l. l ++ drop (suc (length (links_of n))) row)
-    (row_is (network_of n) c.requires.2 c.work-counts.result h.invariant.2 (λ x. c.work-counts.ensures x ∙ ap (worth x) c.single.ensures.0))
+    (row_is (network_of n) c.requires.2 counts long (λ x. c.work-counts.ensures x ∙ ap (worth x) c.single.ensures.0))

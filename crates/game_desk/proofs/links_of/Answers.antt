@@ -19,14 +19,14 @@ reads_more plan as₁ bs i x y ha hb ex ey r j h = go (ℕ_discrete j i)
     go (yes e) = rw e (get_or-set_same as₁ i x 0 ha ∙ ex, get_or-set_same bs i y 0 hb ∙ ey)
     go (no n) = let s = r j (omega arith) in (get_or-set_other as₁ i j x 0 n ∙ s.0, get_or-set_other bs i j y 0 n ∙ s.1)
 
-pub sizes_of-m-requires : goal.sizes_of-m-requires
-sizes_of-m-requires c = omega (arith, c.requires.whole)
+pub sizes_of-requires : goal.sizes_of-requires
+sizes_of-requires c = omega (arith, c.requires.whole)
 
 pub loop-i-init : goal.loop-i-init
 loop-i-init c =
     let w = c.requires in
-    let m = c.sizes_of-m.ensures.1 in
-    (m, omega (arith, w.links), omega arith, search rules, search rules, λ j h. absurd (omega arith))
+    let m : c.from-m.result ≡ size_m c.args.plan.now = c.from-m.ensures ∙ c.sizes_of.ensures.1 in
+    (m, omega (arith, w.links), search rules, search rules, λ j h. absurd (omega arith))
 
 pub entry_at-e-requires : goal.entry_at-e-requires
 entry_at-e-requires c = (omega (arith, c.loop-i.invariant.0), c.requires.whole)
@@ -38,10 +38,9 @@ loop-i-preserved c =
     let plan = c.args.plan.now in (
       h.invariant.0,
       h.invariant.1,
-      omega arith,
       search rules,
       search rules,
-      reads_more plan h.a h.b h.i _ _ (omega (arith, h.invariant.3)) (omega (arith, h.invariant.4)) e.0 e.1 h.invariant.5,
+      reads_more plan h.a h.b h.i _ _ (omega (arith, h.invariant.2)) (omega (arith, h.invariant.3)) e.0 e.1 h.invariant.4,
     )
 
 pub returns : goal.returns
@@ -50,7 +49,7 @@ returns c =
     let plan = c.args.plan.now in
     let w = c.requires in
     let end : h.i ≡ size_m plan = omega (arith, h.invariant.0) in
-    let all : Reads plan h.a h.b (size_m plan) = λ j l. h.invariant.5 j (omega arith) in (
+    let all : Reads plan h.a h.b (size_m plan) = λ j l. h.invariant.4 j (omega arith) in (
       ap (links_from h.a h.b 0) h.invariant.0 ∙ links-read plan h.a h.b 0 (size_m plan) (λ j l. all j (omega arith)),
       record {
         some_node = w.some_node;

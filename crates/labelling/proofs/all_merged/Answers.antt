@@ -6,7 +6,6 @@ use native.Mathlib.Numerals.{add-one}
 use native.Mathlib.Omega.{arith}
 use lib.ListN.{length, take, drop, set, get_or, drop_of_length-le}
 use lib.Seq.{take_all, take-suc-set, drop-set-lt, drop-cons, append_snoc}
-use borrow.Author.Rules.{rules}
 use Rattle.reliability.specs.Networks.{merge}
 use Rattle.labelling.proofs.all_merged.Goals as goal
 
@@ -17,12 +16,8 @@ turn f l k y h e = rw (add-one, take-suc-set l k y h, drop-set-lt (suc k) l k y 
 ended : (f : ℕ → ℕ) (l : List ℕ) (k : ℕ) → length l ≤ k → take k l ++ map f (drop k l) ≡ l
 ended f l k h = rw (take_all k l h, drop_of_length-le l h, append-nil)
 
-pub loop-k-preserved : goal.loop-k-preserved
-loop-k-preserved c =
-    let f = merge c.args.x c.args.y in
-    (search rules, search rules, turn f c.loop-k.labels c.loop-k.k c.merged-w.result (omega arith) c.merged-w.ensures ∙ c.loop-k.invariant.2)
+pub loop-z-preserved : goal.loop-z-preserved
+loop-z-preserved c = turn (merge c.args.x c.args.y) c.loop-z.z-items c.loop-z.z-index c.merged.result (omega arith) c.merged.ensures ∙ c.loop-z.invariant
 
 pub returns : goal.returns
-returns c =
-    let f = merge c.args.x c.args.y in
-    sym (ended f c.loop-k.labels c.loop-k.k (omega arith)) ∙ c.loop-k.invariant.2
+returns c = sym (ended (merge c.args.x c.args.y) c.loop-z.z-items c.loop-z.z-index (omega arith)) ∙ c.loop-z.invariant

@@ -1,4 +1,4 @@
-use Prim.Native.Nat.{◌-◌, ◌≤◌}
+use Prim.Native.Nat.{◌≤◌}
 use mathlib.Core.Path.{◌≡◌}
 use lib.Dec.{eqb}
 use lib.ListN.{length, get_or}
@@ -7,7 +7,4 @@ use Rattle.labelling.specs.Places.{Grouped}
 use Rattle.labelling.proofs.groups.Given as goal
 
 abbrev pub invariant-loop-v : goal.invariant-loop-v
-invariant-loop-v l = (l.v ≤ l.n) × (length l.groups ≡ 32) × (l.c ≡ count l.v (λ u. eqb (get_or l.labels u 0) u)) × (l.c ≤ l.v) × Grouped l.labels l.v l.groups
-
-abbrev pub decreases-loop-v : goal.decreases-loop-v
-decreases-loop-v l = l.n - l.v
+invariant-loop-v l = (length l.groups ≡ 32) × (l.c ≡ count l.v (λ u. eqb (get_or l.labels u 0) u)) × (l.c ≤ l.v) × Grouped l.labels l.v l.groups

@@ -1,25 +1,30 @@
-use mathlib.Core.Path.{◌≡◌, refl, ap, ◌∙◌}
+use Prim.Native.Nat.{ℕ, zero, suc, ◌+◌, ◌≤◌}
+use mathlib.Core.Path.{◌≡◌, refl, sym, ap, ◌∙◌}
+use mathlib.Core.List.{List}
+use mathlib.Core.Bool.{Bool, true, false}
 use native.Mathlib.Omega.{arith}
+use native.Mathlib.Numerals.{add-one}
+use lib.Dec.{eqb}
+use lib.ListN.{length, take, get_or}
 use borrow.Author.Rules.{rules}
+use Rattle.std.specs.List.{count_by}
+use Rattle.std.proofs.lemmas.List.Sums.{count_by_more_yes, count_by_more_no}
 use Rattle.game.specs.Game.{marked}
 use Rattle.game.specs.Forests.{count}
-use Rattle.labelling.proofs.Counts.{count-more, tally-most}
 use Rattle.labelling.proofs.how_many.Goals as goal
 
-pub loop-i-init : goal.loop-i-init
+-- elements counted are places counted
+of_list : (k : ℕ) (ts : List ℕ) (m : ℕ) → m ≤ length ts → count_by (λ x. eqb x k) (take m ts) ≡ count m (marked k ts)
 unfolding count
-loop-i-init c = (search rules, search rules, refl)
-
-pub loop-i-preserved : goal.loop-i-preserved
-loop-i-preserved c =
-    let a = c.args in
-    let l = c.loop-i in
-    let p = marked a.k a.marks in
-    (search rules, tally-most (p l.i) l.c c.either-d.result l.i c.either-d.ensures l.invariant.1, count-more p l.i l.c c.either-d.result l.invariant.2 c.either-d.ensures)
+of_list k ts zero h = refl
+of_list k ts (suc m) h = ap (λ n. count_by (λ x. eqb x k) (take n ts)) (sym (add-one m)) ∙ go (eqb (get_or ts m 0) k) refl (of_list k ts m (omega arith))
+  where
+    go : (b : Bool) → eqb (get_or ts m 0) k ≡ b → count_by (λ x. eqb x k) (take m ts) ≡ count m (marked k ts)
+        → count_by (λ x. eqb x k) (take (m + 1) ts) ≡ elim b [ true ↦ suc (count m (marked k ts)) | false ↦ count m (marked k ts) ]
+    go true e old = count_by_more_yes (λ x. eqb x k) ts m 0 (omega arith) e ∙ add-one _ ∙ ap suc old
+    go false e old = count_by_more_no (λ x. eqb x k) ts m 0 (omega arith) e ∙ old
 
 pub returns : goal.returns
 returns c =
-    let l = c.loop-i in
-    let a = c.args in
-    let e : l.i ≡ a.m = omega arith in
-    l.invariant.2 ∙ ap (λ n. count n (marked a.k a.marks)) e
+    let e : c.count.result ≡ count_by (λ x. eqb x c.args.k) (take c.args.m c.args.marks) = search rules in
+    e ∙ of_list c.args.k c.args.marks c.args.m (omega arith)

@@ -1,9 +1,16 @@
+use mathlib.Core.Path.{refl, ◌∙◌}
 use mathlib.Core.Bool.{◌&&◌}
-use native.Mathlib.Omega.{arith}
+use Rattle.bits.specs.Members.{members, first_of}
 use Rattle.game.specs.Forests.{has}
 use Rattle.labelling.specs.Places.{places_of}
-use Rattle.labelling.proofs.Laws.{some-law, meet-same}
+use Rattle.labelling.proofs.Laws.{some-law, is_below, meet-same}
 use Rattle.labelling.proofs.meets.Goals as goal
 
 pub returns : goal.returns
-returns c = let a = c.args in some-law c.meet.result c.lowest.result a.m (λ d. has (places_of a.m a.s) d && has (places_of a.m a.t) d) (meet-same c.meet.result a.s a.t a.m c.meet.ensures) c.lowest.ensures (omega arith)
+returns c =
+    let a = c.args in
+    let r = c.meet.result in
+    let d = first_of (members r) in
+    c.is_some.ensures
+    ∙ is_below d a.m c.first.result c.first.ensures
+    ∙ some-law r d a.m (λ d. has (places_of a.m a.s) d && has (places_of a.m a.t) d) (meet-same r a.s a.t a.m c.meet.ensures) refl c.requires

@@ -1,4 +1,4 @@
-use Prim.Native.Nat.{◌+◌, ◌-◌, ◌≤◌}
+use Prim.Native.Nat.{◌+◌, ◌-◌}
 use mathlib.Core.Path.{◌≡◌}
 use lib.ListN.{length}
 use lib.Seq.{sets}
@@ -8,7 +8,4 @@ use Rattle.lines.proofs.Texts.{Remaining}
 use Rattle.listing.proofs.put_links.Given as goal
 
 abbrev pub invariant-loop-i : goal.invariant-loop-i
-invariant-loop-i l = (l.m ≡ size_m l.plan) × (l.i ≤ l.m) × Remaining l.text l.next (link_lines l.plan l.i (l.m - l.i)) (sets l.initial.text l.at (link_lines l.plan 0 l.m)) (l.at + length (link_lines l.plan 0 l.m)) (length l.initial.text)
-
-abbrev pub decreases-loop-i : goal.decreases-loop-i
-decreases-loop-i l = l.m - l.i
+invariant-loop-i l = (l.m ≡ size_m l.plan) × Remaining l.text l.next (link_lines l.plan l.i (l.m - l.i)) (sets l.initial.text l.at (link_lines l.plan 0 l.m)) (l.at + length (link_lines l.plan 0 l.m)) (length l.initial.text)

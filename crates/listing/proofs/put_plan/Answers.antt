@@ -11,7 +11,7 @@ use Rattle.reliability.specs.Rule.{Tree, run, figure}
 use Rattle.reliability.specs.Terminals.{figure as figureOf}
 use Rattle.network.specs.Places.{terminals_of}
 use Rattle.loading.proofs.Stands.{stands-tree}
-use Rattle.plan.specs.declared.Verdict.TheVariants.{Accepted}
+use Rattle.std.specs.Prelude.{Ok}
 use Rattle.plan.specs.Plans.{size_n, size_m, plan_of}
 use Rattle.plan.proofs.Verdicts.{accepted-means}
 use Rattle.listing.specs.Listings.{figure_limit, sizes_line, figure_line, link_lines, limits_line, listing_by}
@@ -22,10 +22,10 @@ use Rattle.listing.proofs.put_plan.Goals.{After-put_figure-second, After-put_lin
 -- what remains of the listing of a plan
 abbrev Left : List ℕ → List ℕ → List ℕ → ℕ → List ℕ → Type 0
 Left plan before l at rest =
-    let whole = listing_by Accepted plan in
+    let whole = listing_by (Ok tt) plan in
     Remaining l at rest (sets before 0 whole) (0 + length whole) (length before)
 
-fits : (c : Start) → 0 + length (listing_by Accepted c.args.plan.now) ≤ length c.args.text.now
+fits : (c : Start) → 0 + length (listing_by (Ok tt) c.args.plan.now) ≤ length c.args.text.now
 fits c = omega (arith, c.requires.1)
 
 pub sizes_of-s-requires : goal.sizes_of-s-requires
@@ -50,13 +50,13 @@ links plan = link_lines plan 0 (size_m plan)
 abbrev later : List ℕ → List ℕ
 later plan = links plan ++ limits_line
 
-parted : (plan : List ℕ) → listing_by Accepted plan ≡ sizes plan ++ (pair plan ++ later plan)
+parted : (plan : List ℕ) → listing_by (Ok tt) plan ≡ sizes plan ++ (pair plan ++ later plan)
 parted b = append_assoc (sizes b ++ pair b) (links b) limits_line ∙ append_assoc (sizes b) (pair b) (later b)
 
 abbrev first : After-work-f → List ℕ
 first c = let s = c.sizes_of-s.result in sizes_line s.n s.m c.pieces-k.result
 
-sizes-next : (c : After-work-f) → let b = c.args.plan.now in listing_by Accepted b ≡ first c ++ (pair b ++ later b)
+sizes-next : (c : After-work-f) → let b = c.args.plan.now in listing_by (Ok tt) b ≡ first c ++ (pair b ++ later b)
 sizes-next c =
     let b = c.args.plan.now in
     let (n, m) = c.sizes_of-s.ensures in
@@ -74,7 +74,7 @@ figure-next c =
 sized : (c : After-put_sizes-first) → let a = c.args in Left a.plan.now a.text.now c.put_sizes-first.new.text c.put_sizes-first.result (pair a.plan.now ++ later a.plan.now)
 sized c =
     let a = c.args in
-    goes_on a.text.now 0 _ _ _ _ (begun a.text.now 0 (listing_by Accepted a.plan.now)) (first (goal.at.After-put_sizes-first c).After-work-f) _ (sizes-next (goal.at.After-put_sizes-first c).After-work-f) c.put_sizes-first.new.text c.put_sizes-first.result c.put_sizes-first.ensures
+    goes_on a.text.now 0 _ _ _ _ (begun a.text.now 0 (listing_by (Ok tt) a.plan.now)) (first (goal.at.After-put_sizes-first c).After-work-f) _ (sizes-next (goal.at.After-put_sizes-first c).After-work-f) c.put_sizes-first.new.text c.put_sizes-first.result c.put_sizes-first.ensures
 
 figured : (c : After-put_figure-second) → let a = c.args in Left a.plan.now a.text.now c.put_figure-second.new.text c.put_figure-second.result (later a.plan.now)
 figured c =
@@ -93,7 +93,7 @@ returns c =
 pub put_sizes-first-requires : goal.put_sizes-first-requires
 put_sizes-first-requires c =
     let a = c.args in
-    let h = room a.text.now 0 _ _ _ _ (begun a.text.now 0 (listing_by Accepted a.plan.now)) (first (goal.at.put_sizes-first-requires c).After-work-f) _ (sizes-next (goal.at.put_sizes-first-requires c).After-work-f) (fits (goal.at.put_sizes-first-requires c).Start) in
+    let h = room a.text.now 0 _ _ _ _ (begun a.text.now 0 (listing_by (Ok tt) a.plan.now)) (first (goal.at.put_sizes-first-requires c).After-work-f) _ (sizes-next (goal.at.put_sizes-first-requires c).After-work-f) (fits (goal.at.put_sizes-first-requires c).Start) in
     omega (arith, h)
 
 pub put_figure-second-requires : goal.put_figure-second-requires

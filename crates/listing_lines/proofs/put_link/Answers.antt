@@ -1,6 +1,6 @@
 use Prim.Native.Nat.{ℕ, ◌+◌, ◌≤◌}
 use mathlib.Core.Path.{◌≡◌, sym, ap₂, ◌∙◌, subst}
-use mathlib.Core.List.{List}
+use mathlib.Core.List.{List, [], ◌∷◌}
 use native.Mathlib.Omega.{arith}
 use lib.ListN.{length}
 use Rattle.ratings.specs.Ratings.{T}
@@ -13,7 +13,7 @@ use Rattle.plan.proofs.Verdicts.{accepted-means}
 use Rattle.loading.proofs.Stands.{stands-importance, stands-link}
 use Rattle.network.proofs.Picks.{built-used}
 use Rattle.listing_lines.specs.Entries.{importance_limit, link_line, line_of}
-use Rattle.lines.specs.Lines.{Puts}
+use Rattle.lines.specs.Lines.{Puts, text, filled}
 use Rattle.listing_lines.proofs.put_link.Goals as goal
 use Rattle.listing_lines.proofs.put_link.Goals.{After-importance-f}
 
@@ -35,13 +35,18 @@ overflow_cast-i c =
     let w = (accepted-means c.args.plan.now).0 k.0 in
     record { fits = omega (arith, k.1, w.links) }
 
-line : (c : After-importance-f) → let a = c.args in link_line a.i c.link-e.result c.importance-f.result ≡ line_of a.plan.now a.i
+line : (c : After-importance-f) → let a = c.args in let e = c.link-e.result in let f = c.importance-f.result in filled (a.i ∷ c.from-a.result ∷ c.from-b.result ∷ e.low ∷ f.low ∷ f.high ∷ []) (text "link 0 1 2 3 4 5\n") ≡ line_of a.plan.now a.i
 line c =
     let a = c.args in
+    let e = c.link-e.result in
+    let f = c.importance-f.result in
+    let ends : filled (a.i ∷ c.from-a.result ∷ c.from-b.result ∷ e.low ∷ f.low ∷ f.high ∷ []) (text "link 0 1 2 3 4 5\n") ≡ link_line a.i e f =
+    ap₂ (λ (x y : ℕ). filled (a.i ∷ x ∷ y ∷ e.low ∷ f.low ∷ f.high ∷ []) (text "link 0 1 2 3 4 5\n")) c.from-a.ensures c.from-b.ensures in
     let n = c.built_in-net in
     let worked : c.importance-f.result ≡ importance (network_of n.result) (index_of n.result a.i) importance_limit = c.importance-f.ensures in
     let place = c.requires.1 in
-    ap₂ (λ (e : Link) (f : Figure). link_line a.i e f) (c.link-e.ensures ∙ stands-link T a.plan.now n.result n.ensures.0 n.ensures.1 a.i place)
+    ends
+    ∙ ap₂ (λ (e : Link) (f : Figure). link_line a.i e f) (c.link-e.ensures ∙ stands-link T a.plan.now n.result n.ensures.0 n.ensures.1 a.i place)
     (worked ∙ stands-importance (plan_of T a.plan.now) a.plan.now n.result n.ensures.0 n.ensures.1 a.i place importance_limit)
 
 pub returns : goal.returns

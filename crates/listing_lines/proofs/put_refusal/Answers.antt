@@ -1,6 +1,6 @@
 use Prim.Native.Nat.{ℕ, ◌+◌, ◌≤◌}
 use native.Mathlib.Omega.{arith}
-use mathlib.Core.Path.{◌≡◌, sym, ap₂, subst}
+use mathlib.Core.Path.{◌≡◌, sym, ap₂, subst, ◌∙◌}
 use mathlib.Core.List.{List, [], ◌∷◌}
 use lib.ListN.{length}
 use Rattle.plan.specs.declared.Cause.{Cause}
@@ -15,14 +15,14 @@ line c r i e f = ap₂ (λ (x y : ℕ). filled (x ∷ y ∷ []) (text "refused 0
 pub returns : goal.returns
 returns c =
     let a = c.args in
-    let n = c.number_of in
-    let i = c.named_link in
+    let n = c.from in
+    let i = c.from-2 in
     let p = c.put_line in
-    subst (λ (l : List ℕ). Puts a.text.now 0 l p.new.text p.result) (line a.c n.result i.result n.ensures i.ensures) p.ensures
+    subst (λ (l : List ℕ). Puts a.text.now 0 l p.new.text p.result) (line a.c n.result i.result (n.ensures ∙ c.number.ensures) (i.ensures ∙ c.named_link.ensures)) p.ensures
 
 pub put_line-requires : goal.put_line-requires
 put_line-requires c =
     let a = c.args in
-    let n = c.number_of in
-    let i = c.named_link in
-    subst (λ (l : List ℕ). 0 + length l ≤ length a.text.now) (sym (line a.c n.result i.result n.ensures i.ensures)) (omega (arith, c.requires))
+    let n = c.from in
+    let i = c.from-2 in
+    subst (λ (l : List ℕ). 0 + length l ≤ length a.text.now) (sym (line a.c n.result i.result (n.ensures ∙ c.number.ensures) (i.ensures ∙ c.named_link.ensures))) (omega (arith, c.requires))

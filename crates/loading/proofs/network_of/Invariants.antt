@@ -1,4 +1,4 @@
-use Prim.Native.Nat.{◌-◌, ◌≤◌}
+use Prim.Native.Nat.{◌≤◌}
 use mathlib.Core.Path.{◌≡◌}
 use mathlib.Core.List.{map}
 use Rattle.search.specs.Searches.{from}
@@ -9,7 +9,4 @@ use Rattle.loading.proofs.network_of.Given as goal
 
 abbrev pub invariant-loop-i : goal.invariant-loop-i
 invariant-loop-i l =
-    (l.m ≡ size_m l.plan) × (l.i ≤ l.m) × Built l.net l.i × Invariant l.net × (nodes_of l.net ≡ from 0 (size_n l.plan)) × (links_of l.net ≡ map (link_in (rating l.table) l.plan) (from 0 l.i)) × (l.net.chosen ≡ l.net.nodes)
-
-abbrev pub decreases-loop-i : goal.decreases-loop-i
-decreases-loop-i l = l.m - l.i
+    (l.i-end ≡ size_m l.plan) × (l.i ≤ l.i-end) × Built l.net l.i × Invariant l.net × (nodes_of l.net ≡ from 0 (size_n l.plan)) × (links_of l.net ≡ map (link_in (rating l.table) l.plan) (from 0 l.i)) × (l.net.chosen ≡ l.net.nodes)

@@ -1,46 +1,42 @@
+use mathlib.Core.Path.{◌≡◌}
 use Prim.Native.Nat.{◌<◌}
 use native.Mathlib.Omega.{arith}
 use borrow.Author.Rules.{rules}
 use Rattle.search.proofs.Sets.{has-below}
-use Rattle.search.proofs.Marks.{Lowest, lowest-of, lowest-in, rest-count}
+use Rattle.search.proofs.Marks.{next-in, taken}
 use Rattle.parts.proofs.Clearing.{clearing-starts, clearing-turn, clearing-ends}
 use Rattle.parts.proofs.clear.Goals as goal
-use Rattle.parts.proofs.clear.Goals.{After-lowest-v}
+use Rattle.parts.proofs.clear.Goals.{In-Some}
 
-pub loop-t-init : goal.loop-t-init
-loop-t-init c = clearing-starts _ _ _ c.requires.0 c.requires.1
+pub loop-v-init : goal.loop-v-init
+loop-v-init c =
+    let e : c.into_iter-v-iterator.result.0 ≡ c.args.nodes = search rules in
+    rw e (clearing-starts _ _ _ (search rules))
 
--- the lowest node left
-low : (c : After-lowest-v) → Lowest c.loop-t.t c.lowest-v.result
-low c =
-    let l = c.loop-t in
-    lowest-of l.t c.lowest-v.result (search rules) (omega (arith, l.invariant.small)) c.lowest-v.ensures
-
-below : (c : After-lowest-v) → c.lowest-v.result < 32
-below c =
-    let l = c.loop-t in
-    has-below l.t 32 c.lowest-v.result l.invariant.small (lowest-in _ _ (low c))
+below : (c : In-Some) → c.in-Some.v < 32
+below c = has-below c.args.nodes 32 _ c.requires (c.loop-v.invariant.inside _ (next-in _ _ _ c.in-Some.ensures.steps))
 
 pub offset_bounds-at-v : goal.offset_bounds-at-v
-offset_bounds-at-v c = record { fits = omega (arith, below c) }
+offset_bounds-at-v c = record { fits = omega (arith, below (goal.at.offset_bounds-at-v c).In-Some) }
 
 pub bounds-at-v : goal.bounds-at-v
-bounds-at-v c = below (goal.at.bounds-at-v c).After-lowest-v
+bounds-at-v c = below (goal.at.bounds-at-v c).In-Some
 
-pub offset_bounds-at-v-in-loop-t : goal.offset_bounds-at-v-in-loop-t
-offset_bounds-at-v-in-loop-t c = record { fits = omega (arith, below (goal.at.offset_bounds-at-v-in-loop-t c).After-lowest-v) }
+pub offset_bounds-at-v-in-loop-v : goal.offset_bounds-at-v-in-loop-v
+offset_bounds-at-v-in-loop-v c = record { fits = omega (arith, below (goal.at.offset_bounds-at-v-in-loop-v c).In-Some) }
 
-pub bounds-at-v-in-loop-t : goal.bounds-at-v-in-loop-t
-bounds-at-v-in-loop-t c = omega (arith, below (goal.at.bounds-at-v-in-loop-t c).After-lowest-v)
+pub bounds-at-v-in-loop-v : goal.bounds-at-v-in-loop-v
+bounds-at-v-in-loop-v c = omega (arith, below (goal.at.bounds-at-v-in-loop-v c).In-Some)
 
-pub loop-t-smaller : goal.loop-t-smaller
-loop-t-smaller c = omega (arith, rest-count _ _ (low (goal.at.loop-t-smaller c).After-lowest-v) _ c.without_lowest-t.ensures)
-
-pub loop-t-preserved : goal.loop-t-preserved
-loop-t-preserved c =
-    let l = c.loop-t in
-    clearing-turn _ _ _ l.t l.left l.at l.invariant _ (low (goal.at.loop-t-preserved c).After-lowest-v) (below (goal.at.loop-t-preserved c).After-lowest-v) _ (search rules) c.without_lowest-t.ensures _ c.difference-left.ensures
+pub loop-v-preserved : goal.loop-v-preserved
+loop-v-preserved c =
+    let l = c.loop-v in
+    let (low, rest) = taken _ _ c.next.new.self.0 c.in-Some.ensures.steps in
+    clearing-turn _ _ _ l.v-iterator.0 l.left l.at l.invariant _ low (below (goal.at.loop-v-preserved c).In-Some) c.next.new.self.0 rest _ c.difference-left.ensures
 
 pub returns : goal.returns
 returns c =
-    let l = c.loop-t in let e = clearing-ends _ _ _ l.t l.left l.at c.requires.0 l.invariant (search rules) in record { remaining = e.0; cleared = e.1 }
+    let l = c.loop-v in
+    let t = l.v-iterator.0 in
+    let e = clearing-ends _ _ _ t l.left l.at (search rules) l.invariant c.in-None.ensures.steps.0 in
+    record { remaining = e.0; cleared = e.1 }

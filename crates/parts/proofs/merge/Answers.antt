@@ -4,4 +4,4 @@ use borrow.Author.Rules.{rules}
 use Rattle.parts.proofs.merge.Goals as goal
 
 pub returns : goal.returns
-returns c = record { moved = refl; merged = merged c.args.at.now c.args.keep c.args.gone c.union-s.result (search rules) (search rules) c.union-s.ensures }
+returns c = record { moved = refl; merged = merged c.args.at.now c.args.keep c.args.gone c.union.result (search rules) (search rules) c.union.ensures }

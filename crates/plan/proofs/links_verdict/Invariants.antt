@@ -1,10 +1,7 @@
-use Prim.Native.Nat.{◌-◌, ◌≤◌}
+use Prim.Native.Nat.{◌-◌}
 use mathlib.Core.Path.{◌≡◌}
 use Rattle.plan.specs.Plans.{size_m, links_verdict}
 use Rattle.plan.proofs.links_verdict.Given as goal
 
 abbrev pub invariant-loop-i : goal.invariant-loop-i
-invariant-loop-i l = (l.i ≤ size_m l.plan) × (links_verdict l.plan 0 (size_m l.plan) ≡ links_verdict l.plan l.i (size_m l.plan - l.i))
-
-abbrev pub decreases-loop-i : goal.decreases-loop-i
-decreases-loop-i l = size_m l.plan - l.i
+invariant-loop-i l = links_verdict l.plan 0 (size_m l.plan) ≡ links_verdict l.plan l.i (size_m l.plan - l.i)

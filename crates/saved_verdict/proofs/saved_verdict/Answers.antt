@@ -1,7 +1,6 @@
 use mathlib.Core.Path.{◌≡◌, sym, ap, ap₂, ◌∙◌}
 use mathlib.Core.Bool.{true, false}
 use native.Mathlib.Omega.{arith}
-use borrow.Author.Rules.{rules}
 use borrow.Author.Tests.{eqb-true, eqb-false}
 use Rattle.reliability.specs.Rule.{tree}
 use Rattle.loading.proofs.Stands.{stands-tree}
@@ -23,8 +22,8 @@ returns-then-not-is_well_formed c =
 formed : (c : Else-not-is_well_formed) → well_formed c.args.saved.now ≡ true
 formed c = sym c.is_well_formed.ensures ∙ c.if-not-is_well_formed.false
 
-pub is_complete-requires : goal.is_complete-requires
-is_complete-requires c = formed-size _ (formed c)
+pub invariant_of-work : goal.invariant_of-work
+invariant_of-work c = record { sized = formed-size _ (formed c) }
 
 pub returns-then-is_complete : goal.returns-then-is_complete
 returns-then-is_complete c =
@@ -36,23 +35,20 @@ begun c =
     let a = c.args in
     begun-else a.saved.now (formed (goal.at.Else-is_complete c).Else-not-is_well_formed) (eqb-false (state_in a.saved.now) 1 (sym c.is_complete.ensures ∙ c.if-is_complete.false))
 
-pub row_of-row-requires : goal.row_of-row-requires
-row_of-row-requires c = (formed (goal.at.row_of-row-requires c).Else-not-is_well_formed, begun c)
-
-pub count_of-requires : goal.count_of-requires
-count_of-requires c = formed-size _ (formed (goal.at.count_of-requires c).Else-not-is_well_formed)
+pub row-row-requires : goal.row-row-requires
+row-row-requires c = (formed (goal.at.row-row-requires c).Else-not-is_well_formed, begun (goal.at.row-row-requires c).Else-is_complete)
 
 pub traces-requires : goal.traces-requires
 traces-requires c =
     let few = (begun-means _ (formed (goal.at.traces-requires c).Else-not-is_well_formed) (begun (goal.at.traces-requires c).Else-is_complete)).few in
-    (c.network_of.ensures.2, omega (arith, c.count_of.ensures), search rules)
+    (c.network_of.ensures.2, omega (arith, c.count.ensures))
 
 -- what is traced is the plan's work and the open splits of the bytes
 traced-is : (c : After-traces) → let a = c.args in
     c.traces.result ≡ traced (tree (plan_of (rating a.table.now) a.plan.now)) (opens_of a.saved.now)
 traced-is c =
     let n = c.network_of in
-    c.traces.ensures ∙ ap₂ traced (stands-tree _ n.result n.ensures.0 n.ensures.3 n.ensures.2) (ap (opens_in c.row_of-row.result 0) c.count_of.ensures ∙ c.row_of-row.ensures)
+    c.traces.ensures ∙ ap₂ traced (stands-tree _ n.result n.ensures.0 n.ensures.3 n.ensures.2) (ap (opens_in c.row-row.result 0) c.count.ensures ∙ c.row-row.ensures)
 
 pub returns-then-traces : goal.returns-then-traces
 returns-then-traces c =

@@ -1,68 +1,68 @@
-use Prim.Native.Nat.{ℕ, ◌<◌}
-use mathlib.Core.Path.{sym, ap, ◌∙◌}
+use Prim.Native.Nat.{ℕ, ◌<◌, ◌+◌}
+use mathlib.Core.Path.{◌≡◌, refl, sym, ap, ◌∙◌}
 use native.Mathlib.Omega.{arith}
 use lib.ListN.{get_or}
 use borrow.Author.Rules.{rules}
-use Rattle.search.specs.Searches.{places_in, count_sum}
-use Rattle.search.proofs.Marks.{Lowest, lowest-of, lowest-in, lowest-below, lowest-rest, rest-count, rest-within}
+use Rattle.search.specs.Searches.{places_in, Inside, count_sum}
+use Rattle.search.proofs.Marks.{next-in, next-below, taken, rest-within}
 use Rattle.search.proofs.Largest.{so_far, so-far-starts, so_far_more, so-far-on, so-far-ends}
 use Rattle.search.proofs.largest_sum.Goals as goal
-use Rattle.search.proofs.largest_sum.Goals.{then-most-sum, else-most-sum, After-lowest-k}
+use Rattle.search.proofs.largest_sum.Goals.{In-Some}
 
-low : (c : After-lowest-k) → Lowest c.loop-rest.rest c.lowest-k.result
-low c =
-    let l = c.loop-rest in
-    lowest-of l.rest c.lowest-k.result (search rules) l.invariant.2 c.lowest-k.ensures
-
--- ---- a turn: the first of what is left is better, or the best stays
-pub loop-rest-preserved : goal.loop-rest-preserved
-loop-rest-preserved c =
+pub loop-k-init : goal.loop-k-init
+loop-k-init c =
     let s = c.args in
     let sum = count_sum s.counts.now s.a.now s.b.now in
-    let rest = c.without_lowest-rest.ensures in
-    let k = c.lowest-k.result in
-    let ks = places_in c.without_lowest-rest.result in
-    let added = c.together-sum.ensures in (
-      c.loop-rest.invariant.0 ∙ ap (so_far sum c.loop-rest.best c.loop-rest.most) (lowest-rest _ _ (low (goal.at.loop-rest-preserved c).After-lowest-k) _ rest)
-          ∙ elim c.if-most-sum.branch [
-            | then-most-sum w ↦ so_far_more sum c.loop-rest.best c.loop-rest.most k ks (omega (arith, added, w.if-most-sum.true)) w.best-is (w.most-is ∙ added)
-            | else-most-sum w ↦ so-far-on sum c.loop-rest.best c.loop-rest.most k ks (omega (arith, added, w.if-most-sum.false)) w.best-is w.most-is
-          ],
-      rest-within _ _ (low (goal.at.loop-rest-preserved c).After-lowest-k) _ rest _ c.loop-rest.invariant.1,
-      search rules,
+    let e : c.into_iter-k-iterator.result.0 ≡ s.alive = search rules in
+    rw e (so-far-starts sum s.alive (search rules) ∙ ap (λ (k : ℕ). so_far sum k 0 (places_in s.alive)) (sym c.lowest-best.ensures), λ k f. f)
+
+left : (c : In-Some) → Inside c.next.new.self.0 c.args.alive
+left c = let (low, rest) = taken _ _ _ c.in-Some.ensures.steps in rest-within _ _ low _ rest _ c.loop-k.invariant.1
+
+-- ---- a turn: the first of what is left is better, or the best stays
+pub loop-k-preserved-then-most-sum : goal.loop-k-preserved-then-most-sum
+loop-k-preserved-then-most-sum c =
+    let s = c.args in
+    let l = c.loop-k in
+    let sum = count_sum s.counts.now s.a.now s.b.now in
+    let added : c.from.result + c.from-in-loop-k.result ≡ sum c.in-Some.k = search rules in (
+      l.invariant.0 ∙ ap (so_far sum l.best l.most) c.in-Some.ensures.steps
+          ∙ so_far_more sum l.best l.most c.in-Some.k (places_in c.next.new.self.0) (omega (arith, added, c.if-most-sum.true)) refl added,
+      left (goal.at.loop-k-preserved-then-most-sum c).In-Some,
+    )
+
+pub loop-k-preserved : goal.loop-k-preserved
+loop-k-preserved c =
+    let s = c.args in
+    let l = c.loop-k in
+    let sum = count_sum s.counts.now s.a.now s.b.now in
+    let added : c.from.result + c.from-in-loop-k.result ≡ sum c.in-Some.k = search rules in (
+      l.invariant.0 ∙ ap (so_far sum l.best l.most) c.in-Some.ensures.steps
+          ∙ so-far-on sum l.best l.most c.in-Some.k (places_in c.next.new.self.0) (omega (arith, added, c.if-most-sum.false)) refl refl,
+      left (goal.at.loop-k-preserved c).In-Some,
     )
 
 pub returns : goal.returns
-returns c = let l = c.loop-rest in sym (l.invariant.0 ∙ so-far-ends _ l.best l.most l.rest (search rules))
-
-pub loop-rest-init : goal.loop-rest-init
-loop-rest-init c =
-    let s = c.args in
-    let sum = count_sum s.counts.now s.a.now s.b.now in
-    (so-far-starts sum s.alive (search rules) ∙ ap (λ (k : ℕ). so_far sum k 0 (places_in s.alive)) (sym c.lowest-best.ensures), λ k e. e, search rules)
+returns c = let l = c.loop-k in sym (l.invariant.0 ∙ so-far-ends _ l.best l.most (places_in l.k-iterator.0) c.in-None.ensures.steps.0)
 
 -- its ends are nodes
-inside : (c : After-lowest-k) → (get_or c.args.a.now c.lowest-k.result 0 < 32) × (get_or c.args.b.now c.lowest-k.result 0 < 32)
-inside c =
-    c.requires c.lowest-k.result (c.loop-rest.invariant.1 c.lowest-k.result (lowest-in _ _ (low c)))
+inside : (c : In-Some) → (get_or c.args.a.now c.in-Some.k 0 < 32) × (get_or c.args.b.now c.in-Some.k 0 < 32)
+inside c = c.requires c.in-Some.k (c.loop-k.invariant.1 c.in-Some.k (next-in _ _ _ c.in-Some.ensures.steps))
 
 pub bounds-a-k : goal.bounds-a-k
-bounds-a-k c = lowest-below _ _ (low (goal.at.bounds-a-k c).After-lowest-k)
+bounds-a-k c = next-below _ _ _ c.in-Some.ensures.steps
 
-pub overflow_cast-a : goal.overflow_cast-a
-overflow_cast-a c = record { fits = omega (arith, inside (goal.at.overflow_cast-a c).After-lowest-k) }
+pub overflow_cast-x : goal.overflow_cast-x
+overflow_cast-x c = record { fits = omega (arith, inside (goal.at.overflow_cast-x c).In-Some) }
 
 pub bounds-counts-a : goal.bounds-counts-a
-bounds-counts-a c = (inside (goal.at.bounds-counts-a c).After-lowest-k).0
+bounds-counts-a c = (inside (goal.at.bounds-counts-a c).In-Some).0
 
 pub bounds-b-k : goal.bounds-b-k
-bounds-b-k c = lowest-below _ _ (low (goal.at.bounds-b-k c).After-lowest-k)
+bounds-b-k c = next-below _ _ _ c.in-Some.ensures.steps
 
-pub overflow_cast-b : goal.overflow_cast-b
-overflow_cast-b c = record { fits = omega (arith, inside (goal.at.overflow_cast-b c).After-lowest-k) }
+pub overflow_cast-y : goal.overflow_cast-y
+overflow_cast-y c = record { fits = omega (arith, inside (goal.at.overflow_cast-y c).In-Some) }
 
 pub bounds-counts-b : goal.bounds-counts-b
-bounds-counts-b c = (inside (goal.at.bounds-counts-b c).After-lowest-k).1
-
-pub loop-rest-smaller : goal.loop-rest-smaller
-loop-rest-smaller c = omega (arith, rest-count _ _ (low (goal.at.loop-rest-smaller c).After-lowest-k) _ c.without_lowest-rest.ensures)
+bounds-counts-b c = (inside (goal.at.bounds-counts-b c).In-Some).1

@@ -1,17 +1,15 @@
-use Prim.Native.Nat.{ℕ, ◌<◌}
-use mathlib.Core.Path.{sym, ap, ◌∙◌}
+use Prim.Native.Nat.{ℕ}
 use mathlib.Core.Bool.{Bool, ◌&&◌}
-use native.Mathlib.Omega.{arith}
 use lib.Dec.{eqb}
 use lib.ListN.{get_or}
 use borrow.Author.Rules.{rules}
+use borrow.Author.Tests.{tests}
 use Rattle.bits.specs.Members.{members, how_many}
-use Rattle.bits.proofs.Operations.{cleared-fits}
-use Rattle.search.specs.Searches.{found, between_at}
+use Rattle.search.specs.Searches.{between_at}
+use Rattle.search.proofs.Finds.{finds, serves}
 use Rattle.search.proofs.Sets.{has-below}
-use Rattle.search.proofs.Marks.{Lowest, lowest-of, lowest-in, rest-count, search-hits, search-misses, search-ends}
 use Rattle.search.proofs.lowest_in_line.Goals as goal
-use Rattle.search.proofs.lowest_in_line.Goals.{After-lowest-mid, Start}
+use Rattle.search.proofs.lowest_in_line.Goals.{Start}
 
 abbrev test : (c : Start) → ℕ → Bool
 test c v =
@@ -19,39 +17,10 @@ test c v =
     let here = get_or s.at.now v 0 in
     eqb (how_many (members here)) 2 && between_at s.chosen s.a.now s.b.now v here
 
-low : (c : After-lowest-mid) → Lowest c.loop-t.t c.lowest-mid.result
-low c =
-    let l = c.loop-t in
-    lowest-of l.t c.lowest-mid.result (search rules) (omega (arith, l.invariant.1)) c.lowest-mid.ensures
-
-below : (c : After-lowest-mid) → c.lowest-mid.result < 32
-below c =
-    let l = c.loop-t in
-    has-below l.t 32 c.lowest-mid.result l.invariant.1 (lowest-in _ _ (low c))
-
-pub offset_bounds-at-mid : goal.offset_bounds-at-mid
-offset_bounds-at-mid c = record { fits = omega (arith, below c) }
-
-pub bounds-at-mid : goal.bounds-at-mid
-bounds-at-mid c = below (goal.at.bounds-at-mid c).After-lowest-mid
-
-pub in_line-requires : goal.in_line-requires
-in_line-requires c =
-    (below (goal.at.in_line-requires c).After-lowest-mid, c.requires.1 _ (below (goal.at.in_line-requires c).After-lowest-mid))
-
-pub returns-then-in_line : goal.returns-then-in_line
-returns-then-in_line c =
-    sym (ap found c.loop-t.invariant.0 ∙ search-hits _ _ (low (goal.at.returns-then-in_line c).After-lowest-mid) (test (goal.at.returns-then-in_line c).Start) (sym c.in_line.ensures ∙ c.if-in_line.true))
-
-pub loop-t-smaller : goal.loop-t-smaller
-loop-t-smaller c = omega (arith, rest-count _ _ (low (goal.at.loop-t-smaller c).After-lowest-mid) _ c.without_lowest-t.ensures)
-
-pub loop-t-preserved : goal.loop-t-preserved
-loop-t-preserved c =
-    let rest = c.without_lowest-t.ensures in (
-      c.loop-t.invariant.0 ∙ search-misses _ _ (low (goal.at.loop-t-preserved c).After-lowest-mid) (test (goal.at.loop-t-preserved c).Start) (sym c.in_line.ensures ∙ c.if-in_line.false) _ rest,
-      cleared-fits _ _ _ (search rules) c.loop-t.invariant.1 rest,
-    )
+pub find-requires-clause-callable : goal.find-requires-clause-callable
+find-requires-clause-callable c =
+    serves c.args.nodes c.of.ensures (test (goal.at.find-requires-clause-callable c).Start) (λ x b q k. search (rules, tests))
+    (λ x h. let below = has-below c.args.nodes 32 x c.requires.0 h in let bounded = c.requires.1 x below in search (rules, tests, below, bounded))
 
 pub returns : goal.returns
-returns c = sym (ap found c.loop-t.invariant.0 ∙ search-ends (test (goal.at.returns c).Start) c.loop-t.t (search rules))
+returns c = finds c.args.nodes c.of.ensures (test (goal.at.returns c).Start) (λ x b q k. search (rules, tests)) _ c.find.result c.find.ensures.ran

@@ -1,7 +1,7 @@
 use Prim.Native.Nat.{◌≤◌, ◌<◌}
 use mathlib.Core.Path.{◌≡◌, sym, ap, ◌∙◌}
 use mathlib.Core.List.{map}
-use mathlib.Core.Bool.{true, false, true≢false}
+use mathlib.Core.Bool.{true, false}
 use native.Mathlib.Omega.{arith}
 use lib.ListN.{length}
 use borrow.Author.Rules.{rules}
@@ -86,10 +86,7 @@ pub returns-then-at_most_one : goal.returns-then-at_most_one
 returns-then-at_most_one c =
     let l = c.without_loops-n in
     let few = leb-true (how_many (members (net (goal.at.returns-then-at_most_one c).After-at_most_one).chosen)) 1 (sym c.at_most_one.ensures ∙ c.if-at_most_one.true) in
-    record {
-      settled = λ h. one (given (goal.at.returns-then-at_most_one c).After-at_most_one) (net (goal.at.returns-then-at_most_one c).After-at_most_one) c.requires l.ensures (omega (arith, few, length-places (net (goal.at.returns-then-at_most_one c).After-at_most_one).chosen));
-      simple = λ h. absurd (true≢false h);
-    }
+    one (given (goal.at.returns-then-at_most_one c).After-at_most_one) (net (goal.at.returns-then-at_most_one c).After-at_most_one) c.requires l.ensures (omega (arith, few, length-places (net (goal.at.returns-then-at_most_one c).After-at_most_one).chosen))
 
 pub chosen_piece-piece-requires : goal.chosen_piece-piece-requires
 chosen_piece-piece-requires c = (c.without_loops-n.ensures.1, several c)
@@ -99,27 +96,21 @@ returns-then-difference-ne0 c =
     let l = c.without_loops-n in
     let some : 0 < c.difference.result = search (rules, c.if-difference-ne0.true) in
     let split = some-outside (net (goal.at.returns-then-difference-ne0 c).After-at_most_one) (sized (goal.at.returns-then-difference-ne0 c).After-at_most_one) (several (goal.at.returns-then-difference-ne0 c).Else-at_most_one) c.chosen_piece-piece.result c.chosen_piece-piece.ensures c.difference.result c.difference.ensures l.ensures.1.inside some (search rules) in
-    record {
-      settled = λ h. apart (given (goal.at.returns-then-difference-ne0 c).After-at_most_one) (net (goal.at.returns-then-difference-ne0 c).After-at_most_one) c.requires l.ensures split;
-      simple = λ h. absurd (true≢false h);
-    }
+    apart (given (goal.at.returns-then-difference-ne0 c).After-at_most_one) (net (goal.at.returns-then-difference-ne0 c).After-at_most_one) c.requires l.ensures split
 
-pub kept-k-requires : goal.kept-k-requires
-kept-k-requires c =
+pub kept-rest-requires : goal.kept-rest-requires
+kept-rest-requires c =
     let l = c.without_loops-n in
-    (l.ensures.1, several (goal.at.kept-k-requires c).Else-at_most_one, loopless (given (goal.at.kept-k-requires c).After-at_most_one) (net (goal.at.kept-k-requires c).After-at_most_one) c.requires l.ensures, c.chosen_piece-piece.ensures, inside c)
+    (l.ensures.1, several (goal.at.kept-rest-requires c).Else-at_most_one, loopless (given (goal.at.kept-rest-requires c).After-at_most_one) (net (goal.at.kept-rest-requires c).After-at_most_one) c.requires l.ensures, c.chosen_piece-piece.ensures, inside c)
 
-pub parallel-r-requires : goal.parallel-r-requires
-parallel-r-requires c =
+pub parallel-requires : goal.parallel-requires
+parallel-requires c =
     let l = c.without_loops-n in
-    (c.kept-k.ensures.1, left-loopless (given (goal.at.parallel-r-requires c).After-at_most_one) (net (goal.at.parallel-r-requires c).After-at_most_one) c.requires l.ensures (several (goal.at.parallel-r-requires c).Else-at_most_one) (whole (goal.at.parallel-r-requires c).Else-difference-ne0) c.kept-k.result c.kept-k.ensures.0)
+    (c.kept-rest.ensures.1, left-loopless (given (goal.at.parallel-requires c).After-at_most_one) (net (goal.at.parallel-requires c).After-at_most_one) c.requires l.ensures (several (goal.at.parallel-requires c).Else-at_most_one) (whole (goal.at.parallel-requires c).Else-difference-ne0) c.kept-rest.result c.kept-rest.ensures.0)
 
 pub returns : goal.returns
 returns c =
     let l = c.without_loops-n in
-    let q = c.parallel-r in
-    record {
-      settled = λ h. absurd (true≢false (sym h));
-      simple = λ h. begun (given (goal.at.returns c).After-at_most_one) (net (goal.at.returns c).After-at_most_one) c.requires l.ensures (several (goal.at.returns c).Else-at_most_one) (whole (goal.at.returns c).Else-difference-ne0) c.kept-k.result c.kept-k.ensures.0
-          q.result q.ensures.0 (sized_of q.lifetimes q.result q.type_inv) q.ensures.1;
-    }
+    let q = c.parallel in
+    begun (given (goal.at.returns c).After-at_most_one) (net (goal.at.returns c).After-at_most_one) c.requires l.ensures (several (goal.at.returns c).Else-at_most_one) (whole (goal.at.returns c).Else-difference-ne0) c.kept-rest.result c.kept-rest.ensures.0
+    q.result q.ensures.0 (sized_of q.lifetimes q.result q.type_inv) q.ensures.1

@@ -5,6 +5,3 @@ use Rattle.tables.proofs.never_rises.Given as goal
 
 abbrev pub invariant-loop-k : goal.invariant-loop-k
 invariant-loop-k l = (l.k ≤ 511) × (never_rises l.table 0 511 ≡ never_rises l.table l.k (511 - l.k))
-
-abbrev pub decreases-loop-k : goal.decreases-loop-k
-decreases-loop-k l = 511 - l.k

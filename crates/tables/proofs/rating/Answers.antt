@@ -3,11 +3,12 @@ use mathlib.Core.Path.{◌≡◌, sym, ap, ◌∙◌}
 use mathlib.Core.List.{List}
 use mathlib.Core.Logic.{inl, inr}
 use lib.ListN.{length}
+use borrow.Author.Tests.{eqb-true, eqb-false}
 use Rattle.ratings.specs.Ratings.{T}
 use Rattle.tables.specs.Tables.{rating, BuyersTable, AcceptedTable}
 use Rattle.tables.proofs.Theorems.{no_bytes, buyers-rating}
 use Rattle.tables.proofs.rating.Goals as goal
-use Rattle.tables.proofs.rating.Goals.{Else-table-eq0}
+use Rattle.tables.proofs.rating.Goals.{Else-is_empty}
 
 -- of no bytes
 built_in : (table : List ℕ) (k : ℕ) → length table ≡ 0 → T k ≡ rating table k
@@ -19,14 +20,14 @@ buyers : (table : List ℕ) → AcceptedTable table → (length table ≡ 0 → 
 buyers table (inl e) n = absurd (n (ap length e))
 buyers table (inr b) n = b
 
-mine : (c : Else-table-eq0) → BuyersTable c.args.table.now
-mine c = buyers c.args.table.now c.requires.1 c.if-table-eq0.false
+mine : (c : Else-is_empty) → BuyersTable c.args.table.now
+mine c = buyers c.args.table.now c.requires.1 (eqb-false _ 0 (sym c.is_empty.ensures ∙ c.if-is_empty.false))
 
 pub value-requires : goal.value-requires
 value-requires c = (c.requires.0, (mine c).size)
 
-pub returns-then-table-eq0 : goal.returns-then-table-eq0
-returns-then-table-eq0 c = c.rating.ensures.value ∙ built_in c.args.table.now c.args.k c.if-table-eq0.true
+pub returns-then-is_empty : goal.returns-then-is_empty
+returns-then-is_empty c = c.rating.ensures.value ∙ built_in c.args.table.now c.args.k (eqb-true _ 0 (sym c.is_empty.ensures ∙ c.if-is_empty.true))
 
-pub returns-else-table-eq0 : goal.returns-else-table-eq0
-returns-else-table-eq0 c = c.value.ensures ∙ buyers-rating c.args.table.now (mine (goal.at.returns-else-table-eq0 c).Else-table-eq0) c.args.k
+pub returns-else-is_empty : goal.returns-else-is_empty
+returns-else-is_empty c = c.value.ensures ∙ buyers-rating c.args.table.now (mine (goal.at.returns-else-is_empty c).Else-is_empty) c.args.k

@@ -9,10 +9,10 @@ use Rattle.bits.specs.Members.{members}
 use Rattle.reliability.specs.declared.Step.TheVariants.{End, Series, Split}
 use Rattle.rounding.specs.declared.Direction.{Direction}
 use Rattle.reliability.specs.Rule.{multiplied, fork, Tree}
-use Rattle.reliability.specs.Terminals.{Terminals, has as listing, end_left, series_left, sound_left, broken_left, tree}
+use Rattle.reliability.specs.Terminals.{Terminals, has as listing, sound_left, broken_left, tree}
 use Rattle.reliability.specs.Simple.{Plain}
 use Rattle.network.specs.declared.Network.{Network}
-use Rattle.network.specs.Places.{rank, links_of, terminals_of, chosen_of, index_of, Used, Fitting, assembled}
+use Rattle.network.specs.Places.{rank, links_of, terminals_of, chosen_of, index_of, Used, Fitting}
 use Rattle.steps.specs.declared.Next.{Next}
 use Rattle.steps.specs.declared.Next.TheVariants.{OneNode as One, End as Ended, Series as InSeries, Split as Splitting}
 use Rattle.network.specs.Workable.{Workable}
@@ -24,7 +24,9 @@ use Rattle.sittings.specs.Sittings.{Open, traced}
 use Rattle.sittings.specs.Entries.{opens_in}
 use Rattle.tracing.proofs.Laws.{traced-factored, traced-none, traced-ready, known_by, traced-elsewhere, traced-here, on-link, off-link}
 use Rattle.tracing.proofs.+follow.Goals as goal
-use Rattle.tracing.proofs.+follow.Goals.{follow-After-is_known, follow-After-split_on-i, follow-After-step, follow-In-End, follow-In-Series, follow-In-Split}
+use Rattle.simple.specs.declared.Begun.{Begun}
+use Rattle.simple.specs.Begins.{Begins}
+use Rattle.tracing.proofs.+follow.Goals.{after_deletion-After-start, follow-After-is_known, follow-After-split_on-i, follow-After-step, follow-In-End, follow-In-Series, follow-In-Split}
 
 pub follow-returns-then-left-eq0 : goal.follow-returns-then-left-eq0
 follow-returns-then-left-eq0 t c = let s = c.args in traced-none s.row.now s.k _ s.left c.if-left-eq0.true
@@ -33,7 +35,7 @@ pub follow-step-requires : goal.follow-step-requires
 follow-step-requires t c = c.requires.0
 
 abbrev net : (t : ℕ) → follow-After-step t → Network
-net t o = let s = o.args in assembled s.alive s.nodes s.chosen s.at.now s.a.now s.b.now s.low.now s.high.now
+net t o = o.args.net.now
 
 abbrev graph : (t : ℕ) → follow-After-step t → Terminals
 graph t o = terminals_of (net t o)
@@ -81,7 +83,7 @@ pub follow-after_end-requires : goal.follow-after_end-requires
 follow-after_end-requires t c =
     let o = (goal.at.follow-after_end-requires t c).After-step in (
       omega (arith, o.decreases),
-      (workable t o, end_fits t (goal.at.follow-after_end-requires t c).In-End, c.requires.1, c.requires.2),
+      (workable t o, end_fits t (goal.at.follow-after_end-requires t c).In-End, c.requires.1),
     )
 
 pub follow-returns-in-End : goal.follow-returns-in-End
@@ -96,7 +98,7 @@ pub follow-after_series-requires : goal.follow-after_series-requires
 follow-after_series-requires t c =
     let o = (goal.at.follow-after_series-requires t c).After-step in (
       omega (arith, o.decreases),
-      (workable t o, series-fits t (goal.at.follow-after_series-requires t c).In-Series, c.requires.1, c.requires.2),
+      (workable t o, series-fits t (goal.at.follow-after_series-requires t c).In-Series, c.requires.1),
     )
 
 pub follow-returns-in-Series : goal.follow-returns-in-Series
@@ -136,15 +138,6 @@ split-is t k = split-tree (net t (goal.at.follow-After-split_on-i t k).After-ste
 on-is : (t : ℕ) (k : follow-After-split_on-i t) → index_of (net t (goal.at.follow-After-split_on-i t k).After-step) (link t k) ≡ rank (split_on (net t (goal.at.follow-After-split_on-i t k).After-step).alive (first t k) (row t (goal.at.follow-After-split_on-i t k).After-step) (place t (goal.at.follow-After-split_on-i t k).After-step) (left t (goal.at.follow-After-split_on-i t k).After-step)) (members (net t (goal.at.follow-After-split_on-i t k).After-step).alive)
 on-is t k = ap (index_of (net t (goal.at.follow-After-split_on-i t k).After-step)) k.split_on-i.ensures
 
-pub follow-overflow_mul-k : goal.follow-overflow_mul-k
-follow-overflow_mul-k t c = omega (arith, some_left t c)
-
-pub follow-offset_bounds-row-k : goal.follow-offset_bounds-row-k
-follow-offset_bounds-row-k t c = omega (arith, some_left t c)
-
-pub follow-bounds-row-k : goal.follow-bounds-row-k
-follow-bounds-row-k t c = omega (arith, some_left t (goal.at.follow-bounds-row-k t c).After-split_on-i)
-
 pub follow-place-requires : goal.follow-place-requires
 follow-place-requires t c = (used t (goal.at.follow-place-requires t c).After-split_on-i).below
 
@@ -154,7 +147,7 @@ follow-returns-then-row-k t c =
     (off-link (net t (goal.at.follow-returns-then-row-k t c).After-step).alive (first t (goal.at.follow-returns-then-row-k t c).After-split_on-i) (row t (goal.at.follow-returns-then-row-k t c).After-step) (place t (goal.at.follow-returns-then-row-k t c).After-step) (left t (goal.at.follow-returns-then-row-k t c).After-step) (omega (arith, c.if-left-eq0.false)) (λ e. c.if-row-k.true (e ∙ sym (on-is t (goal.at.follow-returns-then-row-k t c).After-split_on-i) ∙ sym c.place.ensures)))
 
 pub follow-is_known-requires : goal.follow-is_known-requires
-follow-is_known-requires t c = (omega (arith, some_left t (goal.at.follow-is_known-requires t c).After-split_on-i), c.requires.2)
+follow-is_known-requires t c = omega (arith, some_left t (goal.at.follow-is_known-requires t c).After-split_on-i)
 
 -- what is left: the open splits behind it
 abbrev behind : (t : ℕ) → follow-After-is_known t → List Open
@@ -177,31 +170,17 @@ split-traced t p known q h =
     (on-link (net t o).alive (first t k) (row t o) (place t o) (left t o) (omega (arith, p.if-left-eq0.false)) (here ∙ on-is t k)) known
     (sym (known_by (row t o) (place t o) (left t o) p.if-left-eq0.false) ∙ sym p.is_known.ensures ∙ q)
 
-pub follow-overflow_add-k : goal.follow-overflow_add-k
-follow-overflow_add-k t c = omega (arith, some_left t (goal.at.follow-overflow_add-k t c).After-split_on-i)
-
-pub follow-overflow_sub-left : goal.follow-overflow_sub-left
-follow-overflow_sub-left t c = omega (arith, c.if-left-eq0.false)
-
 pub follow-after_deletion-requires : goal.follow-after_deletion-requires
 follow-after_deletion-requires t c =
     let o = (goal.at.follow-after_deletion-requires t c).After-step in
     let k = (goal.at.follow-after_deletion-requires t c).After-split_on-i in
     let b = broken-below (net t o) (workable t o) (first t k) (first_fits t k) (link t k) (used t k) in (
       omega (arith, o.decreases),
-      (workable t o, used t k, b.fewer, omega (arith, c.if-left-eq0.false, c.requires.1), c.requires.2),
+      (workable t o, used t k, b.fewer, omega (arith, c.if-left-eq0.false, c.requires.1)),
     )
 
 pub follow-returns-then-is_known : goal.follow-returns-then-is_known
 follow-returns-then-is_known t c = split-traced t (goal.at.follow-returns-then-is_known t c).After-is_known true c.if-is_known.true c.after_deletion.ensures
-
-pub follow-overflow_add-k-in-Split : goal.follow-overflow_add-k-in-Split
-follow-overflow_add-k-in-Split t c =
-    omega (arith, some_left t (goal.at.follow-overflow_add-k-in-Split t c).After-split_on-i)
-
-pub follow-overflow_sub-left-in-Split : goal.follow-overflow_sub-left-in-Split
-follow-overflow_sub-left-in-Split t c =
-    omega (arith, c.if-left-eq0.false)
 
 pub follow-after_contraction-requires : goal.follow-after_contraction-requires
 follow-after_contraction-requires t c =
@@ -216,7 +195,6 @@ follow-after_contraction-requires t c =
         sound-left (net t o) (workable t o) (first t k) (first_fits t k) (link t k) (used t k),
         b.fewer,
         omega (arith, c.if-left-eq0.false, c.requires.1),
-        c.requires.2,
       ),
     )
 
@@ -226,75 +204,73 @@ follow-returns-else-is_known t c = split-traced t (goal.at.follow-returns-else-i
 -- what an end leaves, two links in series, a deletion, a contraction
 pub after_end-follow-requires : goal.after_end-follow-requires
 after_end-follow-requires t c =
-    let a = c.args in
-    let n = assembled a.alive a.nodes a.chosen a.at.now a.a.now a.b.now a.low.now a.high.now in
-    let r = c.end-r in
-    let is = r.ensures.0 ∙ ap (λ (m : Network). end_left a.v (index_of m a.i) (terminals_of m)) c.assembled.ensures in (
-      omega (arith, c.decreases, fewer (terminals_of n) r.result is (end_below n c.requires.0 _ _ c.requires.1)),
-      (end-work n c.requires.0 _ _ c.requires.1 r.result is (sized_of r.lifetimes r.result r.type_inv) r.ensures.1, c.requires.2, c.requires.3),
+    let n = c.args.net.now in
+    let w = c.requires.0 in
+    let f = c.requires.1 in
+    let r = c.end-r in (
+      omega (arith, c.decreases, fewer (terminals_of n) r.result r.ensures.0 (end_below n w _ _ f)),
+      (end-work n w _ _ f r.result r.ensures.0 (sized_of r.lifetimes r.result r.type_inv) r.ensures.1, c.requires.2),
     )
 
 pub after_end-returns : goal.after_end-returns
 after_end-returns t c =
     let a = c.args in
-    c.follow.ensures ∙ ap (λ (h : Terminals). traced (tree h) (opens_in a.row.now a.k a.left)) (c.end-r.ensures.0 ∙ ap (λ (m : Network). end_left a.v (index_of m a.i) (terminals_of m)) c.assembled.ensures)
+    c.follow.ensures ∙ ap (λ (h : Terminals). traced (tree h) (opens_in a.row.now a.k a.left)) c.end-r.ensures.0
 
 pub after_series-parallel-r-requires : goal.after_series-parallel-r-requires
 after_series-parallel-r-requires t c =
-    let a = c.args in
-    let n = assembled a.alive a.nodes a.chosen a.at.now a.a.now a.b.now a.low.now a.high.now in
-    let is = c.series.ensures.0 ∙ ap (λ (m : Network). series_left a.v (index_of m a.i) (index_of m a.j) (terminals_of m)) c.assembled.ensures in
-    (c.series.ensures.1, (subst Plain (sym is) (series-left n c.requires.0 _ _ _ c.requires.1)).loopless)
+    (c.series.ensures.1, (subst Plain (sym c.series.ensures.0) (series-left c.args.net.now c.requires.0 _ _ _ c.requires.1)).loopless)
 
 pub after_series-follow-requires : goal.after_series-follow-requires
 after_series-follow-requires t c =
-    let a = c.args in
-    let n = assembled a.alive a.nodes a.chosen a.at.now a.a.now a.b.now a.low.now a.high.now in
+    let n = c.args.net.now in
+    let r = c.series in
     let q = c.parallel-r in
-    let is = c.series.ensures.0 ∙ ap (λ (m : Network). series_left a.v (index_of m a.i) (index_of m a.j) (terminals_of m)) c.assembled.ensures in
     let plain = series-left n c.requires.0 _ _ _ c.requires.1 in (
-      omega (arith, c.decreases, unpaired-less plain c.series.result q.result is q.ensures.0 (terminals_of n) (series-below n c.requires.0 _ _ _ c.requires.1)),
-      (unpaired-work plain c.series.result q.result is q.ensures.0 (sized_of q.lifetimes q.result q.type_inv) q.ensures.1, c.requires.2, c.requires.3),
+      omega (arith, c.decreases, unpaired-less plain r.result q.result r.ensures.0 q.ensures.0 (terminals_of n) (series-below n c.requires.0 _ _ _ c.requires.1)),
+      (unpaired-work plain r.result q.result r.ensures.0 q.ensures.0 (sized_of q.lifetimes q.result q.type_inv) q.ensures.1, c.requires.2),
     )
 
 pub after_series-returns : goal.after_series-returns
 after_series-returns t c =
     let a = c.args in
-    let n = assembled a.alive a.nodes a.chosen a.at.now a.a.now a.b.now a.low.now a.high.now in
-    let is = c.series.ensures.0 ∙ ap (λ (m : Network). series_left a.v (index_of m a.i) (index_of m a.j) (terminals_of m)) c.assembled.ensures in
-    c.follow.ensures ∙ ap (λ (w : Tree). traced w (opens_in a.row.now a.k a.left)) (sym (unpaired-same (series-left n c.requires.0 _ _ _ c.requires.1) c.series.result c.parallel-r.result is c.parallel-r.ensures.0))
+    let plain = series-left a.net.now c.requires.0 _ _ _ c.requires.1 in
+    c.follow.ensures ∙ ap (λ (u : Tree). traced u (opens_in a.row.now a.k a.left)) (sym (unpaired-same plain c.series.result c.parallel-r.result c.series.ensures.0 c.parallel-r.ensures.0))
 
-pub after_deletion-returns-then-begun : goal.after_deletion-returns-then-begun
-after_deletion-returns-then-begun t c =
+-- what is left of a deletion once it is made simple
+begun : (t : ℕ) (d : after_deletion-After-start t) (b : Begun) → d.start.result ≡ b → Begins d.deleted-broken.result b
+begun t d b e = subst (Begins d.deleted-broken.result) e d.start.ensures
+
+pub after_deletion-returns-in-Settled : goal.after_deletion-returns-in-Settled
+after_deletion-returns-in-Settled t c =
     let a = c.args in
-    let is = c.deleted-broken.ensures.0 ∙ ap (λ (m : Network). broken_left (index_of m a.i) (terminals_of m)) c.assembled.ensures in
-    traced-ready a.row.now a.k _ a.behind ∙ ap (λ (u : Tree). traced u (opens_in a.row.now a.k a.behind)) (sym (c.start-begun.ensures.settled c.if-begun.true)) ∙ ap (λ (h : Terminals). traced (tree h) (opens_in a.row.now a.k a.behind)) is
+    let b = begun t (goal.at.after_deletion-returns-in-Settled t c).After-start _ c.in-Settled.is in
+    traced-ready a.row.now a.k _ a.behind ∙ ap (λ (u : Tree). traced u (opens_in a.row.now a.k a.behind)) (sym b ∙ ap tree c.deleted-broken.ensures.0)
 
 pub after_deletion-follow-requires : goal.after_deletion-follow-requires
 after_deletion-follow-requires t c =
-    let a = c.args in
-    let is = c.deleted-broken.ensures.0 ∙ ap (λ (m : Network). broken_left (index_of m a.i) (terminals_of m)) c.assembled.ensures in
-    let b = c.start-begun.ensures.simple c.if-begun.false in (
-      omega (arith, c.decreases, b.2, ap (λ (h : Terminals). length h.network.links) is, c.requires.2),
-      (b.0, c.requires.3, c.requires.4),
+    let b = begun t (goal.at.after_deletion-follow-requires t c).After-start _ c.in-Simple.is in (
+      omega (arith, c.decreases, b.2, ap (λ (h : Terminals). length h.network.links) c.deleted-broken.ensures.0, c.requires.2),
+      (b.0, c.requires.3),
     )
 
-pub after_deletion-returns : goal.after_deletion-returns
-after_deletion-returns t c =
+pub after_deletion-returns-in-Simple : goal.after_deletion-returns-in-Simple
+after_deletion-returns-in-Simple t c =
     let a = c.args in
-    let is = c.deleted-broken.ensures.0 ∙ ap (λ (m : Network). broken_left (index_of m a.i) (terminals_of m)) c.assembled.ensures in
-    c.follow.ensures ∙ ap (λ (u : Tree). traced u (opens_in a.row.now a.k a.behind)) (sym (c.start-begun.ensures.simple c.if-begun.false).1) ∙ ap (λ (h : Terminals). traced (tree h) (opens_in a.row.now a.k a.behind)) is
+    let b = begun t (goal.at.after_deletion-returns-in-Simple t c).After-start _ c.in-Simple.is in
+    c.follow.ensures ∙ ap (λ (u : Tree). traced u (opens_in a.row.now a.k a.behind)) (sym b.1 ∙ ap tree c.deleted-broken.ensures.0)
 
 pub after_contraction-follow-requires : goal.after_contraction-follow-requires
 after_contraction-follow-requires t c =
     let plain = c.requires.3 in
-    let q = c.parallel-s in
-    let few = unpaired-few plain c.contracted.result q.result c.contracted.ensures.0 q.ensures.0 in (
+    let r = c.contracted in
+    let q = c.parallel-r in
+    let few = unpaired-few plain r.result q.result r.ensures.0 q.ensures.0 in (
       omega (arith, c.decreases, few, c.requires.4),
-      (unpaired-work plain c.contracted.result q.result c.contracted.ensures.0 q.ensures.0 (sized_of q.lifetimes q.result q.type_inv) q.ensures.1, c.requires.5, c.requires.6),
+      (unpaired-work plain r.result q.result r.ensures.0 q.ensures.0 (sized_of q.lifetimes q.result q.type_inv) q.ensures.1, c.requires.5),
     )
 
 pub after_contraction-returns : goal.after_contraction-returns
 after_contraction-returns t c =
     let a = c.args in
-    c.follow.ensures ∙ ap (λ (w : Tree). traced w (opens_in a.row.now a.k a.left)) (sym (unpaired-same c.requires.3 c.contracted.result c.parallel-s.result c.contracted.ensures.0 c.parallel-s.ensures.0))
+    c.follow.ensures ∙ ap (λ (u : Tree). traced u (opens_in a.row.now a.k a.left)) (sym (unpaired-same c.requires.3 c.contracted.result c.parallel-r.result c.contracted.ensures.0 c.parallel-r.ensures.0))

@@ -1,4 +1,4 @@
-use Prim.Native.Nat.{ℕ, ◌-◌, ◌≤◌, ◌<◌}
+use Prim.Native.Nat.{ℕ, ◌<◌}
 use mathlib.Core.Path.{◌≡◌}
 use mathlib.Core.List.{List}
 use lib.ListN.{length, get_or}
@@ -12,7 +12,4 @@ abbrev pub IsCut : Links → List ℕ → ℕ → ℕ → Type 0
 IsCut l marks g c = places_of l.m c ≡ cut (links_of l) marks g
 
 abbrev pub invariant-loop-f : goal.invariant-loop-f
-invariant-loop-f l = (l.f ≤ l.self.m) × (length l.all ≡ 64) × ((g : ℕ) → g < l.f → IsCut l.self l.marks g (get_or l.all g 0))
-
-abbrev pub decreases-loop-f : goal.decreases-loop-f
-decreases-loop-f l = l.self.m - l.f
+invariant-loop-f l = (length l.all ≡ 64) × ((g : ℕ) → g < l.f → IsCut l.self l.marks g (get_or l.all g 0))

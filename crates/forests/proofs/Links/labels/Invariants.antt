@@ -1,12 +1,7 @@
-use Prim.Native.Nat.{◌≤◌}
 use mathlib.Core.Path.{◌≡◌}
-use lib.ListN.{length}
 use Rattle.search.proofs.Sets.{has as in-set}
 use Rattle.forests.proofs.Laws.{through}
 use Rattle.forests.proofs.Links.labels.Given as goal
 
 abbrev pub invariant-loop-i : goal.invariant-loop-i
-invariant-loop-i l = (l.i ≤ l.self.m) × (length l.labels ≡ 32) × (l.labels ≡ through (in-set l.s) l.self.a l.self.b l.self.m l.i)
-
-abbrev pub decreases-loop-i : goal.decreases-loop-i
-decreases-loop-i l = l.i
+invariant-loop-i l = l.labels ≡ through (in-set l.s) l.self.a l.self.b l.self.m l.i

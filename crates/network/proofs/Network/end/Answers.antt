@@ -11,32 +11,26 @@ use Rattle.network.proofs.Network.end.Goals.{Start}
 sized : (c : Start) → Sized c.args.self
 sized c = search rules
 
-pub take_out-requires : goal.take_out-requires
-take_out-requires c =
+pub unlink-requires : goal.unlink-requires
+unlink-requires c =
     let u = c.requires.1.placed.1 in
-    ((sized (goal.at.take_out-requires c).Start).at_length, omega (arith, ends-below c.args.self (sized (goal.at.take_out-requires c).Start) c.requires.0 c.args.i u), u.below)
-
-pub take_out-requires-2 : goal.take_out-requires-2
-take_out-requires-2 c =
-    let t = c.take_out in
-    let u = c.requires.1.placed.1 in
-    (t.ensures.size ∙ (sized (goal.at.take_out-requires-2 c).Start).at_length, omega (arith, ends-below c.args.self (sized (goal.at.take_out-requires-2 c).Start) c.requires.0 c.args.i u), u.below)
+    let e = ends-below c.args.self (sized (goal.at.unlink-requires c).Start) c.requires.0 c.args.i u in (e.0, e.1, u.below)
 
 pub overflow_cast-v : goal.overflow_cast-v
 overflow_cast-v c = record { fits = let v = c.requires.1.placed.0 in omega arith }
 
-pub into-chosen-requires : goal.into-chosen-requires
-into-chosen-requires c =
+pub into-requires : goal.into-requires
+into-requires c =
     let u = c.requires.1.placed.1 in
-    (across-below _ _ _ (ends-below c.args.self (sized (goal.at.into-chosen-requires c).Start) c.requires.0 c.args.i u) c.across.ensures, c.requires.1.placed.0)
+    (across-below _ _ _ (ends-below c.args.self (sized (goal.at.into-requires c).Start) c.requires.0 c.args.i u) c.across.ensures, c.requires.1.placed.0)
 
 pub returns : goal.returns
 returns c =
-    let t = c.take_out-2 in
-    let f = c.take_out in
+    let u = c.unlink in
+    let e = u.ensures in
     let n = c.args.self in
     let i = c.args.i in
     let v = c.args.v in
     let neighbour = c.across.ensures ∙ ap (across v) (sym (link-at n (sized (goal.at.returns c).Start) i c.requires.1.placed.1)) in
-    ended-as n (sized (goal.at.returns c).Start) c.requires.0 v i c.requires.1 c.without-alive.result c.without_node-others.result c.into-chosen.result c.across.result f.new.at t.new.at
-    c.without-alive.ensures c.without_node-others.ensures neighbour c.into-chosen.ensures f.ensures t.ensures
+    ended-as n (sized (goal.at.returns c).Start) c.requires.0 v i c.requires.1 u.result c.without_node.result c.into.result c.across.result e.out.half u.new.at
+    e.left c.without_node.ensures neighbour c.into.ensures e.out.first e.out.second

@@ -51,61 +51,52 @@ made-line n v i j {chosen} e first second lower upper = (λ t. row (first t) (se
 pub has-c-requires : goal.has-c-requires
 has-c-requires c = node-below c
 
-pub line-low-requires : goal.line-low-requires
-line-low-requires c = within (goal.at.line-low-requires c).Start Down
+pub line-requires : goal.line-requires
+line-requires c = within (goal.at.line-requires c).Start Down
 
-pub line-high-requires : goal.line-high-requires
-line-high-requires c = within (goal.at.line-high-requires c).Start Up
+pub line-requires-2 : goal.line-requires-2
+line-requires-2 c = within (goal.at.line-requires-2 c).Start Up
+
+pub unlink-requires : goal.unlink-requires
+unlink-requires c = let e = ends-j (goal.at.unlink-requires c).Start in (e.0, e.1, (below (goal.at.unlink-requires c).Start).1)
 
 pub take_out-requires : goal.take_out-requires
-take_out-requires c =
-    ((sized (goal.at.take_out-requires c).Start).at_length, omega (arith, ends-j (goal.at.take_out-requires c).Start), omega (arith, below (goal.at.take_out-requires c).Start))
-
-pub take_out-requires-2 : goal.take_out-requires-2
-take_out-requires-2 c =
-    (c.take_out.ensures.size ∙ (sized (goal.at.take_out-requires-2 c).Start).at_length, omega (arith, ends-j (goal.at.take_out-requires-2 c).Start), omega (arith, below (goal.at.take_out-requires-2 c).Start))
-
-pub take_out-requires-3 : goal.take_out-requires-3
-take_out-requires-3 c =
-    (c.take_out-2.ensures.size ∙ c.take_out.ensures.size ∙ (sized (goal.at.take_out-requires-3 c).Start).at_length, c.requires.1.placed.0, omega (arith, below (goal.at.take_out-requires-3 c).Start))
+take_out-requires c = (c.requires.1.placed.0, (below (goal.at.take_out-requires c).Start).0)
 
 pub returns : goal.returns
 returns c =
     let p = c.put_in in
-    let three = c.take_out-3 in
-    let two = c.take_out-2 in
-    let one = c.take_out in
+    let three = c.take_out in
+    let u = c.unlink in
+    let out = u.ensures.out in
     let b = c.across-b in
     let a = c.across-a in
-    let high = c.line-high in
-    let low = c.line-low in
+    let high = c.line-2 in
+    let low = c.line in
     let chosen = c.has-c in
     let n = c.args.self in
     let i = c.args.i in
     let j = c.args.j in
     let v = c.args.v in
-    let r : Network = record { alive = c.without-alive.result; at = p.new.at; low = set n.low i low.result; high = set n.high i high.result; a = set n.a i a.result; b = set n.b i b.result; nodes = c.without_node-nodes.result; chosen = c.without_node-chosen.result } in
+    let r : Network = record { alive = u.result; at = p.new.at; low = set n.low i low.result; high = set n.high i high.result; a = set n.a i a.result; b = set n.b i b.result; nodes = c.without_node.result; chosen = c.without_node-2.result } in
     let listed : chosen.result ≡ listing v (chosen_of n) = chosen.ensures ∙ sym (listed_has n.chosen v) in
     let first : a.result ≡ across v (row_at n i) = a.ensures in
     let second : b.result ≡ across v (row_at n j) = b.ensures in
     let e = row a.result b.result low.result high.result in
     let made : e ≡ in_line (listing v (chosen_of n)) v (row_at n i) (row_at n j) = made-line n v i j listed first second low.ensures high.ensures in
     let written = rows-set (all-even n (sized (goal.at.returns c).Start)) i e in
-    let links = joined-links n r.alive j _ c.requires.1.placed.2 c.without-alive.ensures (sized (goal.at.returns c).Start) i e (in_line (listing v (chosen_of n)) v) c.requires.1.placed.1 written made in
-    let nodes : nodes_of r ≡ without v (nodes_of n) = c.without_node-nodes.ensures in
-    let left : chosen_of r ≡ without v (chosen_of n) = c.without_node-chosen.ensures in
+    let links = joined-links n r.alive j _ c.requires.1.placed.2 u.ensures.left (sized (goal.at.returns c).Start) i e (in_line (listing v (chosen_of n)) v) c.requires.1.placed.1 written made in
+    let nodes : nodes_of r ≡ without v (nodes_of n) = c.without_node.ensures in
+    let left : chosen_of r ≡ without v (chosen_of n) = c.without_node-2.ensures in
     stands r (λ t. among (left t) (record { nodes = nodes t; links = links t })) (series-valid n c.requires.0 v i j c.requires.1)
-    (turned-over n (sized (goal.at.returns c).Start) c.requires.0 v i j c.requires.1 one.new.at two.new.at three.new.at r.at a.result first {y = b.result} r.alive c.without-alive.ensures one.ensures two.ensures three.ensures p.ensures)
+    (turned-over n (sized (goal.at.returns c).Start) c.requires.0 v i j c.requires.1 out.half u.new.at three.new.at r.at a.result first {y = b.result} r.alive u.ensures.left out.first out.second three.ensures p.ensures)
 
 pub put_in-requires : goal.put_in-requires
 put_in-requires c =
-    (c.take_out-3.ensures.size ∙ c.take_out-2.ensures.size ∙ c.take_out.ensures.size ∙ (sized (goal.at.put_in-requires c).Start).at_length, omega (arith, across-below _ _ _ (ends-i (goal.at.put_in-requires c).Start) c.across-a.ensures, across-below _ _ _ (ends-j (goal.at.put_in-requires c).Start) c.across-b.ensures), omega (arith, below (goal.at.put_in-requires c).Start))
+    (omega (arith, across-below _ _ _ (ends-i (goal.at.put_in-requires c).Start) c.across-a.ensures, across-below _ _ _ (ends-j (goal.at.put_in-requires c).Start) c.across-b.ensures), omega (arith, below (goal.at.put_in-requires c).Start))
 
-pub without_node-nodes-requires : goal.without_node-nodes-requires
-without_node-nodes-requires c = node-below (goal.at.without_node-nodes-requires c).Start
+pub without_node-requires : goal.without_node-requires
+without_node-requires c = node-below (goal.at.without_node-requires c).Start
 
-pub without_node-chosen-requires : goal.without_node-chosen-requires
-without_node-chosen-requires c = node-below (goal.at.without_node-chosen-requires c).Start
-
-pub without-alive-requires : goal.without-alive-requires
-without-alive-requires c = omega (arith, below (goal.at.without-alive-requires c).Start)
+pub without_node-requires-2 : goal.without_node-requires-2
+without_node-requires-2 c = node-below (goal.at.without_node-requires-2 c).Start

@@ -1,5 +1,0 @@
-use Rattle.polynomials.proofs.Evals.{eval-zeros}
-use Rattle.polynomials.proofs.nothing.Goals as goal
-
-pub returns : goal.returns
-returns c = λ x. eval-zeros x 25

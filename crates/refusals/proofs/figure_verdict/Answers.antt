@@ -1,8 +1,0 @@
-use Rattle.refusals.proofs.Calls.{passed_on, refused-first}
-use Rattle.refusals.proofs.figure_verdict.Goals as goal
-
-pub returns-in-Accepted : goal.returns-in-Accepted
-returns-in-Accepted c = passed_on _ _ _ _ c.asked_verdict.ensures c.in-Accepted.is c.table_and_plan.ensures
-
-pub returns-in-Refused : goal.returns-in-Refused
-returns-in-Refused c = refused-first _ _ _ _ c.asked_verdict.ensures c.in-Refused.is
