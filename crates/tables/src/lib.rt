@@ -49,7 +49,7 @@ fn never_rises(table: &[u8]) -> bool
 
 /// No bytes, or 512 values.
 #[tactic(auto, unfolding(crate::specs::Tables::sized))]
-fn is_sized(table: &[u8]) -> bool
+pub fn is_sized(table: &[u8]) -> bool
     ensures { result ≡ sized table.now }
 {
     table.is_empty() || table.len() == 2048
@@ -57,7 +57,7 @@ fn is_sized(table: &[u8]) -> bool
 
 /// No bytes, or values that begin with S and never rise.
 #[tactic(auto, unfolding(crate::specs::Tables::sized, crate::specs::Tables::well_rated))]
-fn is_well_rated(table: &[u8]) -> bool
+pub fn is_well_rated(table: &[u8]) -> bool
     requires { sized table.now ≡ true }
     ensures { result ≡ well_rated table.now }
 {
