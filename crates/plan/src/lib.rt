@@ -65,11 +65,11 @@ impl From<u32> for Rated {
     #[tactic(auto, unfolding(crate::specs::Plans::rated))]
     fn from(w: u32) -> Rated {
         if w <= UNITS {
-            return Rated::Units(w);
-        }
-        match w.checked_sub(LENGTHS) {
-            Some(k) if k < 512 => Rated::OfLength(k as usize),
-            _ => Rated::Unrated,
+            Rated::Units(w)
+        } else if (LENGTHS..LENGTHS + 512).contains(&w) {
+            Rated::OfLength((w - LENGTHS) as usize)
+        } else {
+            Rated::Unrated
         }
     }
 }
