@@ -120,6 +120,21 @@ impl Plan {
         Plan::alike(32, S / 10 * 9, &ends)
     }
 
+    /// Of the plans of 32 nodes and 64 links that a search on the library's own stack has tried, the one whose figure takes the
+    /// most, within its first 3,000 splits. The two ends of each link, link by link.
+    pub fn most_stack() -> Plan {
+        let ends: [u8; 128] = [
+            8, 19, 15, 21, 22, 17, 9, 0, 3, 2, 14, 15, 8, 6, 13, 8, 7, 6, 28, 21, 1, 9, 15, 4, 11,
+            12, 5, 21, 24, 25, 2, 7, 7, 0, 30, 2, 6, 22, 23, 24, 22, 5, 26, 27, 1, 21, 6, 17, 7,
+            29, 13, 21, 27, 9, 9, 5, 13, 4, 3, 5, 28, 1, 3, 7, 28, 19, 11, 4, 6, 18, 29, 4, 20, 6,
+            12, 23, 19, 5, 25, 26, 31, 9, 4, 29, 9, 10, 6, 31, 10, 11, 5, 28, 4, 25, 17, 18, 8, 10,
+            30, 9, 9, 24, 6, 16, 7, 19, 8, 21, 16, 4, 8, 0, 1, 5, 14, 20, 0, 4, 23, 4, 4, 12, 18,
+            26, 29, 20, 5, 7,
+        ];
+        let ends: Vec<[u8; 2]> = ends.chunks(2).map(|e| [e[0], e[1]]).collect();
+        Plan::alike(32, S / 10 * 9, &ends)
+    }
+
     /// Of the plans of 24 links that a search has tried, the one whose counts take the most splits: each of its twelve nodes has four
     /// links.
     pub fn slowest_counted() -> Plan {

@@ -96,6 +96,26 @@ fn the_worst_chain_of_splits_under_a_table() {
     assert_eq!(saved[2], 1);
 }
 
+/// The most stack of the engine that a search has found.
+#[test]
+fn the_most_stack_found() {
+    let plan = &Plan::most_stack().bytes();
+    let limit = 3_000;
+    on_a_small_stack(&Call::figure(plan, limit));
+    on_a_small_stack(&Call::Importance {
+        plan,
+        place: 0,
+        limit,
+    });
+    on_a_small_stack(&Call::Difference {
+        a: plan,
+        b: plan,
+        limit,
+    });
+    let saved = &NOTHING;
+    sitting_on_a_small_stack(&Sitting { plan, limit, saved });
+}
+
 #[test]
 fn sixty_four_loops_and_parallels() {
     for ends in [[0, 0], [0, 1]] {
