@@ -13,6 +13,7 @@ use lib.Seq.{sets, sets-eq, length-sets, drop-cons, drop-drop}
 use borrow.Rule.Slice.PartMut.{put_mid}
 use Rattle.std.specs.Fmt.{decimal as written}
 use Rattle.std.proofs.lemmas.Fmt.{length-decimal-le, decimal_from_appends}
+use Rattle.std.proofs.lemmas.List.{take_all}
 use borrow.Author.Tests.{lt-ltb, le-ltb, leb-true}
 use Rattle.lines.specs.Lines.{Puts, digit, decimal_of, decimal, is_digit, meant, filled}
 
@@ -88,9 +89,20 @@ by_library x h =
     let most : length (written x) ≤ 10 = length-decimal-le 10 x (omega arith) (omega arith) (omega arith) in
     sym (decimal_from_appends decimal_of (record { one = digits-one; more = digits_more }) 10 x (omega arith) most)
 
+-- at least one digit
+pub some_digit : (x : ℕ) → 1 ≤ length (decimal x)
+some_digit x = go (dec_lt x 10)
+  where
+    go : Dec (x < 10) → 1 ≤ length (decimal x)
+    go (yes l) = rw (digits-one 9 x l) (omega arith)
+    go (no n) = rw (digits_more 9 x (omega arith), length-append (decimal_of 9 (x / 10)) (digit (x % 10) ∷ [])) (omega arith)
+
 -- a part laid into a text
 pub laid : (l t : List ℕ) (at k : ℕ) → k ≡ length t → at + length t ≤ length l → put_mid at k l t ≡ sets l at t
 laid l t at k e h = rw e (ap (λ (r : List ℕ). take at l ++ (t ++ r)) (drop-drop (length t) at l) ∙ sym (append_assoc (take at l) t (drop (at + length t) l)) ∙ sym (sets-eq t l at h))
+
+-- for put_decimal; take_all is for digits copied by a range of them
+pub ruleset digits_laid = (by_library, some_digit, laid, take_all)
 
 -- ---- the form of a line
 
@@ -106,6 +118,13 @@ module _ (xs : List ℕ) where
     pub itself-meant : is_digit c ≡ false → c ∷ [] ≡ meant xs c
     itself-meant h = sym (meant-by false h)
 
+    -- the same, from what is meant
+    pub digit_meant : is_digit c ≡ true → meant xs c ≡ decimal (get_or xs (c - 48) 0)
+    digit_meant = meant-by true
+
+    pub other_meant : is_digit c ≡ false → meant xs c ≡ c ∷ []
+    other_meant = meant-by false
+
   pub filled_none : (form : List ℕ) (i : ℕ) → length form ≤ i → filled xs (drop i form) ≡ []
   unfolding filled
   filled_none form i h = ap (filled xs) (drop_of_length-le form h)
@@ -120,3 +139,6 @@ first_holds false b h = h
 
 pub at-least-zero : (c : ℕ) → is_digit c ≡ true → 48 ≤ c
 at-least-zero c h = leb-true 48 c (first_holds (leb 48 c) (leb c 57) h)
+
+-- for put_meant
+pub ruleset meanings = (digit_meant, other_meant, at-least-zero, some_digit)

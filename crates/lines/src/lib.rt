@@ -5,6 +5,7 @@ ghost use Rattle.std.specs.Prelude.{◌≡◌, ◌+◌, ◌≤◌, length};
 ghost use Rattle.lines.specs.Lines.{Puts, decimal, meant, filled};
 
 /// A number in decimal from a place on. Each of these functions returns the place behind what it has written.
+#[tactic(auto, using(crate::proofs::Texts::digits_laid))]
 fn put_decimal(text: &mut [u8], at: usize, x: u32) -> usize
     requires { at + length (decimal x) ≤ length text.old }
     ensures { Puts text.old at (decimal x) text.new result }
@@ -17,6 +18,7 @@ fn put_decimal(text: &mut [u8], at: usize, x: u32) -> usize
 }
 
 /// What a character of a line's form stands for.
+#[tactic(auto, using(crate::proofs::Texts::meanings))]
 fn put_meant(text: &mut [u8], at: usize, c: u8, numbers: &[u32]) -> usize
     requires { at + length (meant numbers.now c) ≤ length text.old }
     ensures { Puts text.old at (meant numbers.now c) text.new result }
