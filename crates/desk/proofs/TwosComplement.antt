@@ -14,3 +14,5 @@ written (negsuc n) = omega arith
 -- as the code reads it
 pub unsigned-twos : (x : ℤ) → SFits w32 x → of_z w32 (to_z w32 (of_z w32 x)) ≡ twos x
 unsigned-twos x fits = ap (of_z w32) (to_z-of_z fits) ∙ written x
+
+pub ruleset on_bits = (unsigned-twos)

@@ -11,6 +11,7 @@ ghost use Rattle.desk.specs.Outcomes.{twos, check_outcome, figure_outcome, impor
 use causes::CallCause;
 
 /// Two's complement in 32 bits.
+#[tactic(auto, using(crate::proofs::TwosComplement::on_bits))]
 fn bits_of(x: i32) -> u32
     ensures { result ≡ twos x }
 {
