@@ -16,5 +16,8 @@ pub find-requires-clause-callable : goal.find-requires-clause-callable
 find-requires-clause-callable c =
     serves c.args.alive c.of.ensures (test (goal.at.find-requires-clause-callable c).Start) (λ x b q k. search (rules, tests)) (λ x h. search (rules, tests, has-place))
 
+-- what is done with the place found is left to the search
 pub returns : goal.returns
-returns c = finds c.args.alive c.of.ensures (test (goal.at.returns c).Start) (λ x b q k. search (rules, tests)) _ c.find.result c.find.ensures.ran
+returns c =
+    let first = finds c.args.alive c.of.ensures (test (goal.at.returns c).Start) (λ x b q k. search (rules, tests)) _ c.find.result c.find.ensures.ran in
+    search (rules, first)

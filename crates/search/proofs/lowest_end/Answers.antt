@@ -18,5 +18,8 @@ find-requires-clause-callable c =
     serves c.args.nodes c.of.ensures (test (goal.at.find-requires-clause-callable c).Start) (λ x b q k. search (rules, tests))
     (λ x h. let below = has-below c.args.nodes 32 x c.requires h in search (rules, tests, below))
 
+-- what is done with the place found is left to the search
 pub returns : goal.returns
-returns c = finds c.args.nodes c.of.ensures (test (goal.at.returns c).Start) (λ x b q k. search (rules, tests)) _ c.find.result c.find.ensures.ran
+returns c =
+    let first = finds c.args.nodes c.of.ensures (test (goal.at.returns c).Start) (λ x b q k. search (rules, tests)) _ c.find.result c.find.ensures.ran in
+    search (rules, first)

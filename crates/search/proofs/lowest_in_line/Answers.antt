@@ -22,5 +22,8 @@ find-requires-clause-callable c =
     serves c.args.nodes c.of.ensures (test (goal.at.find-requires-clause-callable c).Start) (λ x b q k. search (rules, tests))
     (λ x h. let below = has-below c.args.nodes 32 x c.requires.0 h in let bounded = c.requires.1 x below in search (rules, tests, below, bounded))
 
+-- what is done with the place found is left to the search
 pub returns : goal.returns
-returns c = finds c.args.nodes c.of.ensures (test (goal.at.returns c).Start) (λ x b q k. search (rules, tests)) _ c.find.result c.find.ensures.ran
+returns c =
+    let first = finds c.args.nodes c.of.ensures (test (goal.at.returns c).Start) (λ x b q k. search (rules, tests)) _ c.find.result c.find.ensures.ran in
+    search (rules, first)
