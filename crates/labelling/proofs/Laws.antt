@@ -64,6 +64,13 @@ module _ (q : ℕ → Bool) where
       go p k (yes z) = rw z (u.above i (le_refl i) ∙ sym t)
       go p k (no n) = u.below p (omega arith)
 
+  pub upto_put : (s r i : ℕ) → Upto q s i → members r ≡ cond (q i) (set (members s) i true) (members s) → i < 64 → Upto q r (i + 1)
+  upto_put s r i u e l = go (q i) refl e
+    where
+      go : (b : Bool) → q i ≡ b → members r ≡ cond b (set (members s) i true) (members s) → Upto q r (i + 1)
+      go true t e = upto-in s r i u t e l
+      go false t e = upto-out r i (record { below = λ p k. ap (λ (bs : List Bool). get_or bs p false) e ∙ u.below p k; above = λ p k. ap (λ (bs : List Bool). get_or bs p false) e ∙ u.above p k }) t
+
   pub upto-end : (s i m : ℕ) → Upto q s i → m ≤ i → places_of m s ≡ table m q
   upto-end s i m u h = table_same m (in-set s) q (λ p l. u.below p (omega arith))
 

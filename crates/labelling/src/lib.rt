@@ -1,7 +1,7 @@
 //! Sets of places, marks of links and labels of nodes, as the search for two forests has them.
 #![tactic(auto)]
 
-ghost use Rattle.std.specs.Prelude.{ℕ, Bool, ◌≤◌, ◌<◌, ◌≡◌, map, cond, ltb, Some, None, ◌||◌, get_or};
+ghost use Rattle.std.specs.Prelude.{ℕ, Bool, ◌≤◌, ◌<◌, ◌≡◌, map, cond, ltb, Some, None, ◌||◌, get_or, set, true};
 ghost use Rattle.bits.specs.Members.{members, first_of};
 ghost use Rattle.search.specs.Searches.{from};
 ghost use Rattle.reliability.specs.Networks.{merge};
@@ -34,6 +34,14 @@ pub fn own_labels() -> [u8; 32]
     std::array::from_fn(|k| k as u8)
 }
 
+/// s, with i where t holds.
+pub fn put(s: u64, i: usize, t: bool) -> u64
+    requires { i < 64 }
+    ensures { members result ≡ cond t (set (members s) i true) (members s) }
+{
+    if t { bits::with(s, i) } else { s }
+}
+
 /// The places below m at which a test holds.
 pub fn where_true<F: Fn(usize) -> bool>(m: usize, test: F) -> u64
     requires most { m ≤ 64 }
@@ -42,9 +50,7 @@ pub fn where_true<F: Fn(usize) -> bool>(m: usize, test: F) -> u64
 {
     let mut s = 0u64;
     for i in 0..m {
-        if test(i) {
-            s = bits::with(s, i);
-        }
+        s = put(s, i, test(i));
     }
     s
 }

@@ -38,8 +38,8 @@ loop-v-preserved c =
     let p : ℕ → Bool = λ u. eqb (get_or a.labels u 0) u in
     let more = byte-more (p l.v) l.c c.from.result (c.from.ensures ∙ ap (λ k. bool_byte (eqb k l.v)) c.from-w.ensures) in (
       search rules,
-      count-more p l.v l.c (l.c + c.from.result) l.invariant.1 more,
-      tally-most (p l.v) l.c (l.c + c.from.result) l.v more l.invariant.2,
+      omega (arith, count-more p l.v l.c (l.c + c.from.result) l.invariant.1 more),
+      omega (arith, tally-most (p l.v) l.c (l.c + c.from.result) l.v more l.invariant.2),
       groups-more a.labels c.requires.1 l.groups l.v l.c c.if-w-v.groups (omega (arith, c.requires.0)) l.invariant.0 l.invariant.1 l.invariant.3 (group (goal.at.loop-v-preserved c).After-from),
     )
 

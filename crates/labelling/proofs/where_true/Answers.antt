@@ -1,25 +1,27 @@
-use Prim.Native.Nat.{◌+◌}
-use mathlib.Core.Path.{sym, subst, ◌∙◌}
+use Prim.Native.Nat.{ℕ}
+use mathlib.Core.Path.{◌≡◌, ap, ◌∙◌}
+use mathlib.Core.Bool.{Bool, true, cond}
 use native.Mathlib.Omega.{arith}
+use lib.ListN.{set}
 use borrow.Author.Rules.{rules}
-use Rattle.labelling.proofs.Laws.{Upto, upto-start, upto-in, upto-out, upto-end}
+use Rattle.bits.specs.Members.{members}
+use Rattle.labelling.proofs.Laws.{upto-start, upto_put, upto-end}
 use Rattle.labelling.proofs.where_true.Goals as goal
-use Rattle.labelling.proofs.where_true.Goals.{then-test, else-test}
 
 pub loop-i-init : goal.loop-i-init
 loop-i-init g c = (search rules, λ q h. upto-start q)
+
+-- what the test answered is what is asked
+as_asked : (s r i : ℕ) (t b : Bool) → t ≡ b → members r ≡ cond t (set (members s) i true) (members s) → members r ≡ cond b (set (members s) i true) (members s)
+as_asked s r i t b e h = h ∙ ap (λ u. cond u (set (members s) i true) (members s)) e
 
 pub loop-i-preserved : goal.loop-i-preserved
 loop-i-preserved g c = (
   search rules,
   λ q h.
       let l = c.loop-i in
-      let u = l.invariant.1 q h in
-      let e = h l.i (omega arith) c.test.result c.test.ensures in
-      elim c.if-test.branch [
-        | then-test w ↦ subst (λ s. Upto q s (l.i + 1)) (sym w.s-is) (upto-in q l.s _ l.i u (sym e ∙ w.if-test.true) w.with-s.ensures (omega (arith, c.requires.most)))
-        | else-test w ↦ subst (λ s. Upto q s (l.i + 1)) (sym w.s-is) (upto-out q l.s l.i u (sym e ∙ w.if-test.false))
-      ],
+      let put = as_asked l.s c.put-s.result l.i c.test.result (q l.i) (h l.i (omega arith) c.test.result c.test.ensures) c.put-s.ensures in
+      upto_put q l.s c.put-s.result l.i (l.invariant.1 q h) put (omega (arith, c.requires.most)),
 )
 
 pub returns : goal.returns
