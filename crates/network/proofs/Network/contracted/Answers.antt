@@ -11,7 +11,8 @@ sized c = search rules
 
 pub unlink-requires : goal.unlink-requires
 unlink-requires c =
-    let e = ends-below c.args.self (sized (goal.at.unlink-requires c).Start) c.requires.0 c.args.i c.requires.1 in (e.0, e.1, c.requires.1.below)
+    let e = ends-below c.args.self (sized (goal.at.unlink-requires c).Start) c.requires.0 c.args.i c.requires.1 in
+    (omega (arith, e), omega (arith, e), omega (arith, c.requires.1.below))
 
 pub merge-moved-requires : goal.merge-moved-requires
 merge-moved-requires c =

@@ -1,3 +1,4 @@
+use native.Mathlib.Omega.{arith}
 use Rattle.network.specs.Places.{Sized}
 use Rattle.network.proofs.Kept.{ends-below, deletes}
 use borrow.Author.Rules.{rules}
@@ -9,7 +10,8 @@ sized c = search rules
 
 pub unlink-requires : goal.unlink-requires
 unlink-requires c =
-    let e = ends-below c.args.self (sized (goal.at.unlink-requires c).Start) c.requires.0 c.args.i c.requires.1 in (e.0, e.1, c.requires.1.below)
+    let e = ends-below c.args.self (sized (goal.at.unlink-requires c).Start) c.requires.0 c.args.i c.requires.1 in
+    (omega (arith, e), omega (arith, e), omega (arith, c.requires.1.below))
 
 pub returns : goal.returns
 returns c =

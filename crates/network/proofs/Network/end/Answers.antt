@@ -14,7 +14,8 @@ sized c = search rules
 pub unlink-requires : goal.unlink-requires
 unlink-requires c =
     let u = c.requires.1.placed.1 in
-    let e = ends-below c.args.self (sized (goal.at.unlink-requires c).Start) c.requires.0 c.args.i u in (e.0, e.1, u.below)
+    let e = ends-below c.args.self (sized (goal.at.unlink-requires c).Start) c.requires.0 c.args.i u in
+    (omega (arith, e), omega (arith, e), omega (arith, u.below))
 
 pub overflow_cast-v : goal.overflow_cast-v
 overflow_cast-v c = record { fits = let v = c.requires.1.placed.0 in omega arith }

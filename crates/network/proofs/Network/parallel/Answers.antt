@@ -53,8 +53,9 @@ bounds-self-j-in-Some c = omega (arith, below (goal.at.bounds-self-j-in-Some c).
 pub unlink-requires : goal.unlink-requires
 unlink-requires c =
     let h = c.loop-i in
-    let u = (both (goal.at.unlink-requires c).In-Some).1 in
-    let e = ends-below h.self h.invariant.sized h.invariant.holds _ u in (e.0, e.1, u.below)
+    let u = both (goal.at.unlink-requires c).In-Some in
+    let e = ends-below h.self h.invariant.sized h.invariant.holds _ u.1 in
+    (omega (arith, e), omega (arith, e), omega (arith, below (goal.at.unlink-requires c).In-Some))
 
 pub loop-i-smaller : goal.loop-i-smaller
 loop-i-smaller c =

@@ -58,10 +58,12 @@ pub line-requires-2 : goal.line-requires-2
 line-requires-2 c = within (goal.at.line-requires-2 c).Start Up
 
 pub unlink-requires : goal.unlink-requires
-unlink-requires c = let e = ends-j (goal.at.unlink-requires c).Start in (e.0, e.1, (below (goal.at.unlink-requires c).Start).1)
+unlink-requires c =
+    let e = ends-j (goal.at.unlink-requires c).Start in
+    (omega (arith, e), omega (arith, e), omega (arith, below (goal.at.unlink-requires c).Start))
 
 pub take_out-requires : goal.take_out-requires
-take_out-requires c = (c.requires.1.placed.0, (below (goal.at.take_out-requires c).Start).0)
+take_out-requires c = (c.requires.1.placed.0, omega (arith, below (goal.at.take_out-requires c).Start))
 
 pub returns : goal.returns
 returns c =
