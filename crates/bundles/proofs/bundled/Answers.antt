@@ -69,8 +69,9 @@ bounds-net-j-in-Some-2 c = omega (arith, below (goal.at.bounds-net-j-in-Some-2 c
 pub unlink-requires : goal.unlink-requires
 unlink-requires c =
     let h = c.loop-i in
-    let u = (both (goal.at.unlink-requires c).In-Some).1 in
-    let e = ends-below h.net h.invariant.sized h.invariant.holds _ u in (e.0, e.1, u.below)
+    let u = both (goal.at.unlink-requires c).In-Some in
+    let e = ends-below h.net h.invariant.sized h.invariant.holds _ u.1 in
+    (omega (arith, e), omega (arith, e), omega (arith, below (goal.at.unlink-requires c).In-Some))
 
 pub loop-i-smaller : goal.loop-i-smaller
 loop-i-smaller c =
