@@ -53,7 +53,7 @@ pub slice_bounds-copy_from_slice-end : goal.slice_bounds-copy_from_slice-end
 slice_bounds-copy_from_slice-end c = omega (arith, counted c, c.requires.3)
 
 pub slice_bounds-copy_from_slice-end-2 : goal.slice_bounds-copy_from_slice-end-2
-slice_bounds-copy_from_slice-end-2 c = omega (arith, counted (goal.at.slice_bounds-copy_from_slice-end-2 c).After-work-counts, c.requires.3, length-take (c.count-m.result + 1) c.args.row.now)
+slice_bounds-copy_from_slice-end-2 c = grind (arith, counted (goal.at.slice_bounds-copy_from_slice-end-2 c).After-work-counts, c.requires.3, length-take)
 
 pub shared_ref_as_front-copy_from_slice : goal.shared_ref_as_front-copy_from_slice
 shared_ref_as_front-copy_from_slice c = omega (arith, counted (goal.at.shared_ref_as_front-copy_from_slice c).After-work-counts, c.requires.2)
@@ -61,7 +61,7 @@ shared_ref_as_front-copy_from_slice c = omega (arith, counted (goal.at.shared_re
 pub copy_from_slice-requires : goal.copy_from_slice-requires
 copy_from_slice-requires c =
     let long : length c.work-counts.result.entries ≡ 25 = search rules in
-    omega (arith, counted (goal.at.copy_from_slice-requires c).After-work-counts, c.requires, length-take (c.count-m.result + 1) c.args.row.now, length-take (c.count-m.result + 1) c.work-counts.result.entries)
+    grind (arith, counted (goal.at.copy_from_slice-requires c).After-work-counts, c.requires, length-take)
 
 pub returns : goal.returns
 returns c =
@@ -70,6 +70,6 @@ returns c =
     let counts = c.work-counts.result.entries in
     let long : length counts ≡ 25 = search rules in
     let m : c.count-m.result + 1 ≡ suc (length (links_of n)) = omega (arith, counted (goal.at.returns c).After-work-counts) in
-    ap (λ l. l ++ drop (c.count-m.result + 1) row) c.copy_from_slice.ensures.after ∙ ap (λ k. take k counts ++ drop k row) m
-    ∙ ap (λ l. l ++ drop (suc (length (links_of n))) row)
-    (row_is (network_of n) c.requires.2 counts long (λ x. c.work-counts.ensures x ∙ ap (worth x) c.single.ensures.0))
+    let written = ap (λ k. take k counts ++ drop k row) m ∙ ap (λ l. l ++ drop (suc (length (links_of n))) row)
+    (row_is (network_of n) c.requires.2 counts long (λ x. c.work-counts.ensures x ∙ ap (worth x) c.single.ensures.0)) in
+    grind (arith, c.copy_from_slice.ensures.after, written)
