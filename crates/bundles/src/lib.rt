@@ -30,7 +30,9 @@ pub fn bundled(mut net: Network) -> Network
         net.low[i] = both;
         net.high[i] = both;
         let (x, y) = (net.a[j], net.b[j]);
-        net.alive = parts::unlink(&mut net.at, net.alive, x, y, j);
+        parts::take_out(&mut net.at, x, j);
+        parts::take_out(&mut net.at, y, j);
+        net.alive = bits::without(net.alive, j);
     }
     net
 }

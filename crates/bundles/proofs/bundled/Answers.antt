@@ -66,26 +66,34 @@ bounds-net-j-in-Some c = omega (arith, below (goal.at.bounds-net-j-in-Some c).In
 pub bounds-net-j-in-Some-2 : goal.bounds-net-j-in-Some-2
 bounds-net-j-in-Some-2 c = omega (arith, below (goal.at.bounds-net-j-in-Some-2 c).In-Some)
 
-pub unlink-requires : goal.unlink-requires
-unlink-requires c =
+pub take_out-requires : goal.take_out-requires
+take_out-requires c =
     let h = c.loop-i in
-    let u = both (goal.at.unlink-requires c).In-Some in
-    let e = ends-below h.net h.invariant.sized h.invariant.holds _ u.1 in
-    (omega (arith, e), omega (arith, e), omega (arith, below (goal.at.unlink-requires c).In-Some))
+    let u = (both (goal.at.take_out-requires c).In-Some).1 in
+    (omega (arith, ends-below h.net h.invariant.sized h.invariant.holds _ u), omega (arith, below (goal.at.take_out-requires c).In-Some))
+
+pub take_out-requires-in-Some : goal.take_out-requires-in-Some
+take_out-requires-in-Some c =
+    let h = c.loop-i in
+    let u = (both (goal.at.take_out-requires-in-Some c).In-Some).1 in
+    (omega (arith, ends-below h.net h.invariant.sized h.invariant.holds _ u), omega (arith, below (goal.at.take_out-requires-in-Some c).In-Some))
+
+pub without-requires : goal.without-requires
+without-requires c = omega (arith, below (goal.at.without-requires c).In-Some)
 
 pub loop-i-smaller : goal.loop-i-smaller
 loop-i-smaller c =
-    let u = c.unlink in
-    let e = u.ensures in
+    let two = c.take_out-in-Some in
+    let one = c.take_out in
     let h = c.loop-i in
-    bundled-fewer c.args.net h.net h.invariant _ _ (found (goal.at.loop-i-smaller c).In-Some) u.result e.out.half u.new.at _ _ e.left e.out.first e.out.second (ap (set h.net.low _) (omega arith)) (ap (set h.net.high _) (omega arith))
+    bundled-fewer c.args.net h.net h.invariant _ _ (found (goal.at.loop-i-smaller c).In-Some) c.without.result one.new.at two.new.at _ _ c.without.ensures one.ensures two.ensures (ap (set h.net.low _) (omega arith)) (ap (set h.net.high _) (omega arith))
 
 pub loop-i-preserved : goal.loop-i-preserved
 loop-i-preserved c =
-    let u = c.unlink in
-    let e = u.ensures in
+    let two = c.take_out-in-Some in
+    let one = c.take_out in
     let h = c.loop-i in
-    bundled-on c.args.net h.net h.invariant _ _ (found (goal.at.loop-i-preserved c).In-Some) u.result e.out.half u.new.at _ _ e.left e.out.first e.out.second (ap (set h.net.low _) (omega arith)) (ap (set h.net.high _) (omega arith))
+    bundled-on c.args.net h.net h.invariant _ _ (found (goal.at.loop-i-preserved c).In-Some) c.without.result one.new.at two.new.at _ _ c.without.ensures one.ensures two.ensures (ap (set h.net.low _) (omega arith)) (ap (set h.net.high _) (omega arith))
 
 pub returns : goal.returns
 returns c = all-bundled _ _ c.loop-i.invariant (sym c.first_pair.ensures ∙ c.in_default.is)
