@@ -101,7 +101,7 @@ some_digit x = go (dec_lt x 10)
 pub laid : (l t : List ℕ) (at k : ℕ) → k ≡ length t → at + length t ≤ length l → put_mid at k l t ≡ sets l at t
 laid l t at k e h = rw e (ap (λ (r : List ℕ). take at l ++ (t ++ r)) (drop-drop (length t) at l) ∙ sym (append_assoc (take at l) t (drop (at + length t) l)) ∙ sym (sets-eq t l at h))
 
--- for put_decimal; take_all is for digits copied by a range of them
+-- for put_decimal; some_digit and take_all are for digits copied by a range of them
 pub ruleset digits_laid = (by_library, some_digit, laid, take_all)
 
 -- ---- the form of a line
